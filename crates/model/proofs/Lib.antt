@@ -1,0 +1,12 @@
+pub mod Lists
+pub mod Values
+pub mod Failing
+pub mod Root
+pub mod Resolution
+pub mod Derived
+pub mod Bound
+pub mod Fitted
+pub mod Same
+pub mod Places
+pub mod Total
+pub mod Searched
