@@ -83,7 +83,7 @@ first-or-none P dec (C ∷ F) = at (dec C) (first-or-none P dec F)
     at (no n) (inl f) = inl (suc (f .0), f .1, later n (f .2))
     at (no n) (inr m) = inr (n, m)
 
-member? : (t : ℤ) (C : Clause) → Dec (t ∈ C)
+pub member? : (t : ℤ) (C : Clause) → Dec (t ∈ C)
 member? t [] = no (λ h. h)
 member? t (u ∷ C) = at (ℤ-discrete t u) (member? t C)
   where
@@ -148,7 +148,7 @@ joined-exists : (t : ℤ) (C D : Clause) → t ∈ C → opposite t ∈ D → (E
 joined-exists (pos k) C D c d = resolves k C D c d
 joined-exists (negsuc k) C D c d = resolves (suc k) D C d c
 
-back-exists : (t : ℤ) (setter : Reference) (C : Clause) (m : ℕ) (below : Outcome) → t ∈ C → (us : List Step) × (out : Outcome) × Back t setter C m below us out
+pub back-exists : (t : ℤ) (setter : Reference) (C : Clause) (m : ℕ) (below : Outcome) → t ∈ C → (us : List Step) × (out : Outcome) × Back t setter C m below us out
 back-exists t setter C m (fits τ) c = ([], fits τ, passes tt)
 back-exists t setter C m (fails r D) c = at (member? (opposite t) D)
   where
@@ -178,17 +178,17 @@ low-flipped zero h = omega arith
 low-flipped (suc zero) h = omega arith
 low-flipped (suc (suc b)) h = h
 
-low-value : (σ : Setting) (t : ℤ) → Low σ → value σ t ≤ 2
+pub low-value : (σ : Setting) (t : ℤ) → Low σ → value σ t ≤ 2
 low-value σ (pos zero) l = omega arith
 low-value σ (pos (suc k)) l = l k
 low-value σ (negsuc k) l = low-flipped (getD σ k 0) (l k)
 
-entry-two : (σ : Setting) (t : ℤ) → value σ t ≡ 2 → entry σ (variable t) ≡ 2
+pub entry-two : (σ : Setting) (t : ℤ) → value σ t ≡ 2 → entry σ (variable t) ≡ 2
 entry-two σ (pos k) e = e
 entry-two σ (negsuc k) e = flipped-two (getD σ k 0) e
 
 -- where nothing is decided, some literal is unset
-unset-literal : (n : ℕ) (σ : Setting) (F : List Clause) → Over n F → Low σ → NoneOf (AllFalse σ) F → (Each (SomeTrue σ) F → ⊥) → (t : ℤ) × Within n t × (value σ t ≡ 2)
+pub unset-literal : (n : ℕ) (σ : Setting) (F : List Clause) → Over n F → Low σ → NoneOf (AllFalse σ) F → (Each (SomeTrue σ) F → ⊥) → (t : ℤ) × Within n t × (value σ t ≡ 2)
 unset-literal n σ [] o l c u = absurd (u tt)
 unset-literal n σ (C ∷ F) o l c u = at (some-true? σ C) (dec-some (λ t. value σ t ≡ 2) (λ t. ℕ-discrete (value σ t) 2) C) (λ e. unset-literal n σ F (o .1) l (c .1) e)
   where
@@ -269,11 +269,16 @@ module _ (n : ℕ) (F : List Clause) (order : List ℕ) (over : Over n F) (cover
   goes-on zero σ m h l = turn σ m l (λ τ i lt k. absurd (omega arith))
   goes-on (suc N) σ m h l = turn σ m l (λ τ i lt k. goes-on N τ i (omega arith) k)
 
-low-unset : (n : ℕ) → Low (unset n)
+pub low-unset : (n : ℕ) → Low (unset n)
 low-unset zero k = omega arith
 low-unset (suc n) zero = omega arith
 low-unset (suc n) (suc k) = low-unset n k
 
-pub ends : Ends
+-- from each setting the search ends
+pub ends-from : (n : ℕ) (F : List Clause) (order : List ℕ) → Over n F → ((k : ℕ) → 0 < k → k ≤ n → Member k order)
+    → (σ : Setting) (m : ℕ) → Low σ → (ss : List Step) × (out : Outcome) × Branch F order σ m ss out
 unfolding Ended
-ends n F order over covers = goes-on n F order over covers (vacant (unset n)) (unset n) 0 (omega arith) (low-unset n)
+ends-from n F order over covers σ m l = goes-on n F order over covers (vacant σ) σ m (omega arith) l
+
+pub ends : Ends
+ends n F order over covers = ends-from n F order over covers (unset n) 0 (low-unset n)
