@@ -11,3 +11,4 @@ pub mod Places
 pub mod Total
 pub mod Searched
 pub mod Ways
+pub mod Signs
