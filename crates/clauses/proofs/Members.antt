@@ -85,6 +85,27 @@ united a b l r m t f g h u =
 
 -- for crates above
 
+-- a literal is known by its number
+pub code-same : (a b : Literal) → code a ≡ code b → (a .index ≡ b .index) × (a .on ≡ b .on)
+code-same a b e = look (a .on) (b .on) e
+  where
+    look : (p q : Bool) → cond p (pos (suc (a .index))) (negsuc (a .index)) ≡ cond q (pos (suc (b .index))) (negsuc (b .index)) → (a .index ≡ b .index) × (p ≡ q)
+    look true true e = (cc, refl)
+    look true false e = absurd (let z : _≡_ {A = ℕ} 0 1 = cc in omega arith)
+    look false true e = absurd (let z : _≡_ {A = ℕ} 0 1 = cc in omega arith)
+    look false false e = (cc, refl)
+
+pub same-code : (a b : Literal) → a .index ≡ b .index → a .on ≡ b .on → code a ≡ code b
+same-code a b e f = ap (λ (p : Bool). cond p (pos (suc (a .index))) (negsuc (a .index))) f ∙ ap (λ (i : ℕ). cond (b .on) (pos (suc i)) (negsuc i)) e
+
+-- a literal of the first n variables has its place among them
+pub code-index : (l : Literal) (n : ℕ) → Within n (code l) → l .index < n
+code-index l n w = look (l .on) w
+  where
+    look : (b : Bool) → Within n (cond b (pos (suc (l .index))) (negsuc (l .index))) → l .index < n
+    look true w = omega (arith, w .1)
+    look false w = omega (arith, w .1)
+
 -- the set of a clause of the 256 variables holds it
 pub holds-named : (s : LiteralSet) (C : Clause) → ((u : ℤ) → member s u ≡ named C u) → ((t : ℤ) → t ∈ C → Within 256 t) → Holds s C
 holds-named s C f w u =

@@ -8,6 +8,7 @@ pub mod Bound
 pub mod Fitted
 pub mod Same
 pub mod Places
+pub mod Members
 pub mod Total
 pub mod Searched
 pub mod Ways

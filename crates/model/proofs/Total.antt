@@ -13,6 +13,7 @@ use Rattle.model.specs.Arguments.{unset, Ends}
 use Rattle.model.proofs.Values.{off-two, flipped-two}
 use Rattle.model.proofs.Failing.{first-holds, chosen-unset}
 use Rattle.model.proofs.Bound.{vacant, vacant-true}
+use Rattle.model.proofs.Members.{in-left, in-right, in-either}
 
 -- tests
 
@@ -117,20 +118,6 @@ without t (x ∷ C) = at (ℤ-discrete x t) (without t C)
       λ u h n. ⊎-elim (λ (q : u ≡ x). inl q) (λ (i : u ∈ C). inr (r .2 u i n)) h,
     )
 
-pub in-left : (t : ℤ) (C D : Clause) → t ∈ C → t ∈ (C ++ D)
-in-left t (u ∷ C) D (inl e) = inl e
-in-left t (u ∷ C) D (inr h) = inr (in-left t C D h)
-in-left t [] D h = absurd h
-
-pub in-right : (t : ℤ) (C D : Clause) → t ∈ D → t ∈ (C ++ D)
-in-right t [] D h = h
-in-right t (u ∷ C) D h = inr (in-right t C D h)
-
-pub in-either : (t : ℤ) (C D : Clause) → t ∈ (C ++ D) → (t ∈ C) ⊎ (t ∈ D)
-in-either t [] D h = inr h
-in-either t (u ∷ C) D (inl e) = inl (inl e)
-in-either t (u ∷ C) D (inr h) = ⊎-elim (λ (i : t ∈ C). inl (inr i)) inr (in-either t C D h)
-
 resolves : (k : ℕ) (L N : Clause) → on k ∈ L → off k ∈ N → (E : Clause) × Resolvent k L N E
 resolves k L N l n =
     let x = without (on k) L in
@@ -144,7 +131,7 @@ resolves k L N l n =
       },
     )
 
-joined-exists : (t : ℤ) (C D : Clause) → t ∈ C → opposite t ∈ D → (E : Clause) × Joined t C D E
+pub joined-exists : (t : ℤ) (C D : Clause) → t ∈ C → opposite t ∈ D → (E : Clause) × Joined t C D E
 joined-exists (pos k) C D c d = resolves k C D c d
 joined-exists (negsuc k) C D c d = resolves (suc k) D C d c
 
