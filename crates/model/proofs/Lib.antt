@@ -10,3 +10,5 @@ pub mod Same
 pub mod Places
 pub mod Total
 pub mod Searched
+pub mod Merging
+pub mod Calls
