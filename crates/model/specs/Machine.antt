@@ -42,6 +42,7 @@ abbrev pub Does : {U E X : Type 0} → Option E → U → X → X → X → Resu
 Does refusal answer before after now (Ok u) = (refusal ≡ None) × (u ≡ answer) × (now ≡ after)
 Does refusal answer before after now (Err e) = (refusal ≡ Some e) × (now ≡ before)
 
+
 -- start
 
 abbrev pub start-refusal : Machine → ℕ → Option Decline
