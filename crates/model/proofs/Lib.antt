@@ -13,3 +13,5 @@ pub mod Total
 pub mod Searched
 pub mod Ways
 pub mod Signs
+pub mod Merging
+pub mod Calls

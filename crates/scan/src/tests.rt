@@ -50,7 +50,9 @@ fn further(so_far: Test, v: u8, t: Literal) -> Test
 
 // How a clause stands at a setting.
 pub fn test(literals: &[i32], settings: &[u8]) -> Test
-    requires { ⌜ Literals (length (now settings)) (now literals) ⌝ ∗ ⌜ length (now settings) ≤ 256 ⌝ ∗ ⌜ Settings (now settings) ⌝ }
+    requires literals { ⌜ Literals (length (now settings)) (now literals) ⌝ }
+    requires few { ⌜ length (now settings) ≤ 256 ⌝ }
+    requires settings { ⌜ Settings (now settings) ⌝ }
     ensures { λ r. ⌜ Tested (now (settings .entry)) (now (literals .entry)) r ⌝ }
 {
     let mut so_far = Test::AllFalse;

@@ -22,15 +22,15 @@ pub unreachable-requires : need.unreachable-requires
 unreachable-requires c κs =
     let t : ℤ = getD (c .args .literals .now) (c .loop-number .number-index) (pos 0) in
     let f : SFits w32 t = search needs in
-    let w = c .pre .0 t (in-getD (c .args .literals .now) (c .loop-number .number-index) (pos 0) (c .loop-number-test .taken)) in
-    subst (λ (x : ℤ). Within 256 x → ⊥) (toZ-ofZ w32 t f) (c .in-rest .ensures tt) (w .0, omega (arith, w .1, c .pre .1))
+    let w = c .pre .literals t (in-getD (c .args .literals .now) (c .loop-number .number-index) (pos 0) (c .loop-number-test .taken)) in
+    subst (λ (x : ℤ). Within 256 x → ⊥) (toZ-ofZ w32 t f) (c .in-rest .ensures tt) (w .0, omega (arith, w .1, c .pre .few))
 
 pub look-v-requires : need.look-v-requires
 look-v-requires c κs =
     let t : ℤ = getD (c .args .literals .now) (c .loop-number .number-index) (pos 0) in
     let f : SFits w32 t = search needs in
     code-index (c .in-Some .t) (length (c .args .settings .now)) (subst (Within (length (c .args .settings .now))) (sym (c .in-Some .ensures tt ∙ toZ-ofZ w32 t f))
-    (c .pre .0 t (in-getD (c .args .literals .now) (c .loop-number .number-index) (pos 0) (c .loop-number-test .taken))))
+    (c .pre .literals t (in-getD (c .args .literals .now) (c .loop-number .number-index) (pos 0) (c .loop-number-test .taken))))
 
 pub returns-then-v-eq1 : need.returns-then-v-eq1
 returns-then-v-eq1 c =
@@ -40,7 +40,7 @@ returns-then-v-eq1 c =
     ap (value (c .args .settings .now)) (sym (c .in-Some .ensures tt ∙ toZ-ofZ w32 t f)) ∙ sym (c .look-v .ensures) ∙ c .if-v-eq1 .taken)
 
 pub further-so-far-requires : need.further-so-far-requires
-further-so-far-requires c κs = (c .if-v-eq1 .left, let l = low-value (c .args .settings .now) (code (c .in-Some .t)) (?) in omega (arith, c .look-v .ensures, l))
+further-so-far-requires c κs = (c .if-v-eq1 .left, let l = low-value (c .args .settings .now) (code (c .in-Some .t)) (c .pre .settings) in omega (arith, c .look-v .ensures, l))
 
 pub loop-number-again : need.loop-number-again
 loop-number-again c =

@@ -1,0 +1,4 @@
+pub mod Cuts
+pub mod Files
+pub mod Pushed
+pub mod Appending
