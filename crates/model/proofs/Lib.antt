@@ -13,5 +13,6 @@ pub mod Total
 pub mod Searched
 pub mod Ways
 pub mod Signs
+pub mod Numbered
 pub mod Merging
 pub mod Calls

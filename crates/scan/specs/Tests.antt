@@ -36,3 +36,19 @@ Scanned σ F (Conflict k) = (C : Clause) × First (AllFalse σ) F k C
 Scanned σ F (Forced k t) = NoneOf (AllFalse σ) F × ((C : Clause) × (First (SomeUnit σ) F k C × UnitOn σ (code t) C))
 Scanned σ F Satisfied = Each (SomeTrue σ) F
 Scanned σ F undecided = Undecided σ F
+
+-- the scan with one clause more, the one numbered k, which stands so
+abbrev pub added : Scan → ℕ → Test → Scan
+added (Conflict j) k r = Conflict j
+added (Forced j t) k all-false = Conflict k
+added (Forced j t) k (unit u) = Forced j t
+added (Forced j t) k some-true = Forced j t
+added (Forced j t) k neither = Forced j t
+added Satisfied k all-false = Conflict k
+added Satisfied k (unit u) = Forced k u
+added Satisfied k some-true = Satisfied
+added Satisfied k neither = undecided
+added undecided k all-false = Conflict k
+added undecided k (unit u) = Forced k u
+added undecided k some-true = undecided
+added undecided k neither = undecided
