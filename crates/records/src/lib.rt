@@ -9,6 +9,7 @@ use model::Step;
 
 
 
+mod line;
 pub mod silent;
 pub mod table;
 
