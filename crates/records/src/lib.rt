@@ -7,11 +7,13 @@ ghost use Rattle.records.specs.Kept.{step-at};
 use model::Decline;
 use model::Step;
 
-
-
 mod line;
+pub mod lines;
 pub mod silent;
 pub mod table;
+
+// The most steps that a record takes which keeps.
+const MOST: usize = 65_535;
 
 // A record means whether it keeps, the steps that it holds, and how many more it takes.
 pub trait Record {

@@ -6,10 +6,8 @@ ghost use denote.Ref.{now, name};
 ghost use Rattle.records.specs.Kept.{keeper, most, Beyond, beyond-stays, beyond-joins, table-of, table-keeps};
 use model::Decline;
 use model::Step;
+use super::MOST;
 use super::Record;
-
-// The most steps that a record takes.
-const MOST: usize = 65_535;
 
 // Holds its steps in given places, the first 65,535 at most.
 #[derive(Drop)]
