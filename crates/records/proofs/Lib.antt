@@ -1,0 +1,4 @@
+pub mod Putting
+pub mod Digits
+pub mod Laid
+pub mod Steps
