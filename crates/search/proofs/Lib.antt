@@ -1,0 +1,6 @@
+pub mod Logs
+pub mod Backs
+pub mod Views
+pub mod Weights
+pub mod GoingBack
+pub mod Keeping
