@@ -1,10 +1,22 @@
 -- What every move of the search keeps.
-use mathlib.Core.Path.{_≡_, refl, _∙_}
+use mathlib.Core.Path.{_≡_, refl, subst, _∙_}
+use Rattle.std.specs.declared.result.Result.{Result}
+use Rattle.model.specs.declared.Decline.{Decline}
+use Rattle.model.specs.Machine.{Machine}
+use Rattle.model.specs.Settling.{RecordMeaning}
 use Rattle.search.specs.declared.State.{State}
-use Rattle.search.specs.States.{Kept}
+use Rattle.search.specs.declared.Frame.{Frame}
+use Rattle.search.specs.declared.Turn.{Turn}
+use Rattle.search.specs.States.{Position, Run, Kept, Stuck, Stepped}
 
 pub kept-join : {a b c : State} → Kept a b → Kept b c → Kept a c
 kept-join p q = record { file-is = q .file-is ∙ p .file-is; trail-is = q .trail-is ∙ p .trail-is; frames-is = q .frames-is ∙ p .frames-is }
 
 pub kept-same : {a : State} → Kept a a
 kept-same = record { file-is = refl; trail-is = refl; frames-is = refl }
+
+-- a step of the search, of a file that means the same and an answer that is the same
+pub stepped-there : (m m′ : Machine) → m′ ≡ m → (run : Run) (rec rec′ : RecordMeaning) (p p′ : Position) (f f′ : Frame) (r r′ : Result Turn Decline) → r ≡ r′
+    → (Stuck run m′ rec p f → Stepped run m′ p rec′ p′ f′ r) → Stuck run m rec p f → Stepped run m p rec′ p′ f′ r′
+stepped-there m m′ e run rec rec′ p p′ f f′ r r′ q h s =
+    subst (λ (x : Result Turn Decline). Stepped run m p rec′ p′ f′ x) q (subst (λ (k : Machine). Stuck run k rec p f → Stepped run k p rec′ p′ f′ r) e h s)
