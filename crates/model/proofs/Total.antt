@@ -93,7 +93,7 @@ member? t (u ∷ C) = at (ℤ-discrete t u) (member? t C)
     at (no n) (yes h) = yes (inr h)
     at (no n) (no m) = no (λ h. ⊎-elim n m h)
 
-chosen-or-none : (σ : Setting) (order : List ℕ) → ((k : ℕ) × Chosen σ order k) ⊎ ((k : ℕ) → Member k order → entry σ k ≢ 2)
+pub chosen-or-none : (σ : Setting) (order : List ℕ) → ((k : ℕ) × Chosen σ order k) ⊎ ((k : ℕ) → Member k order → entry σ k ≢ 2)
 chosen-or-none σ [] = inr (λ k h e. h)
 chosen-or-none σ (j ∷ order) = at (ℕ-discrete (entry σ j) 2) (chosen-or-none σ order)
   where

@@ -90,12 +90,12 @@ byte b = cond (eqb b 1) 1 0
 abbrev pub written : Setting → List ℕ → List ℕ
 written τ sheet = map byte τ ++ drop (length τ) sheet
 
--- memory: how many places each stack has
-abbrev pub settle-refusal : Machine → OrderMeaning → RecordMeaning → List ℕ → List ℕ → Option Decline
+-- how many places the sheet has, and each stack
+abbrev pub settle-refusal : Machine → OrderMeaning → RecordMeaning → ℕ → List ℕ → Option Decline
 settle-refusal m o rec sheet memory = first (
     (eqb (m .variables) 0, NotStarted)
     ∷ (not (eqb (o .size) (m .variables)), OtherSize)
-    ∷ (not (every (leb (m .variables)) (length sheet ∷ memory)), FewPlaces)
+    ∷ (not (every (leb (m .variables)) (sheet ∷ memory)), FewPlaces)
     ∷ (not (eqb (length (rec .steps)) 0), RecordUsed)
     ∷ [])
 
@@ -112,4 +112,4 @@ Settled None m o rec sheet r rec′ sheet′ = (ss : List Step) × (out : Outcom
 
 -- either it is refused, and nothing changes; or the search makes its steps and ends, and answer, record and sheet are as its end says
 abbrev pub Settles : Machine → OrderMeaning → RecordMeaning → List ℕ → List ℕ → Result Answer Decline → RecordMeaning → List ℕ → Type 0
-Settles m o rec sheet memory r rec′ sheet′ = Settled (settle-refusal m o rec sheet memory) m o rec sheet r rec′ sheet′
+Settles m o rec sheet memory r rec′ sheet′ = Settled (settle-refusal m o rec (length sheet) memory) m o rec sheet r rec′ sheet′

@@ -7,7 +7,8 @@ use Rattle.model.specs.Settling.{RecordMeaning}
 use Rattle.search.specs.declared.State.{State}
 use Rattle.search.specs.declared.Frame.{Frame}
 use Rattle.search.specs.declared.Turn.{Turn}
-use Rattle.search.specs.States.{Position, Run, Kept, Stuck, Stepped}
+use Rattle.search.specs.declared.Next.{Next}
+use Rattle.search.specs.States.{Position, Run, Kept, Going, Stuck, Stepped, Advanced}
 
 pub kept-join : {a b c : State} → Kept a b → Kept b c → Kept a c
 kept-join p q = record { file-is = q .file-is ∙ p .file-is; trail-is = q .trail-is ∙ p .trail-is; frames-is = q .frames-is ∙ p .frames-is }
@@ -20,3 +21,8 @@ pub stepped-there : (m m′ : Machine) → m′ ≡ m → (run : Run) (rec rec�
     → (Stuck run m′ rec p f → Stepped run m′ p rec′ p′ f′ r) → Stuck run m rec p f → Stepped run m p rec′ p′ f′ r′
 stepped-there m m′ e run rec rec′ p p′ f f′ r r′ q h s =
     subst (λ (x : Result Turn Decline). Stepped run m p rec′ p′ f′ x) q (subst (λ (k : Machine). Stuck run k rec p f → Stepped run k p rec′ p′ f′ r) e h s)
+
+-- a turn of the search likewise
+pub advanced-there : (m m′ : Machine) → m′ ≡ m → (run : Run) (rec rec′ : RecordMeaning) (p p′ : Position) (r : Result Next Decline)
+    → (Going run m′ rec p → Advanced run m′ p rec′ p′ r) → Going run m rec p → Advanced run m p rec′ p′ r
+advanced-there m m′ e run rec rec′ p p′ r h = subst (λ (k : Machine). Going run k rec p → Advanced run k p rec′ p′ r) e h

@@ -4,3 +4,4 @@ pub mod Views
 pub mod Weights
 pub mod GoingBack
 pub mod Keeping
+pub mod GoingOn

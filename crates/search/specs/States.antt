@@ -7,12 +7,15 @@ use Prim.Native.Nat.{ℕ, zero, suc, _+_, _-_, _^_, min, _<_, _≤_}
 use lib.IntN.{ℤ}
 use lib.ListN.{length, set}
 use denote.Ref.{now}
-use Rattle.std.specs.declared.option.Option.the-variants.{Some}
+use Rattle.std.specs.declared.option.Option.{Option}
+use Rattle.std.specs.declared.option.Option.the-variants.{Some, None}
 use Rattle.std.specs.declared.result.Result.{Result}
 use Rattle.std.specs.declared.result.Result.the-variants.{Ok, Err}
 use Rattle.model.specs.declared.Step.{Step}
 use Rattle.model.specs.declared.Reference.{Reference}
 use Rattle.model.specs.declared.Reference.the-variants.{S}
+use Rattle.model.specs.declared.Answer.{Answer}
+use Rattle.model.specs.declared.Answer.the-variants.{Fits as All-true, Cannot}
 use Rattle.model.specs.declared.Decline.{Decline}
 use Rattle.model.specs.declared.Decline.the-variants.{RecordFull}
 use Rattle.model.specs.Clauses.{Clause, on, off, opposite}
@@ -168,3 +171,14 @@ Advanced run m p rec′ p′ (Ok Again) = Going run m rec′ p′ × (weight (m 
 Advanced run m p rec′ p′ (Ok Fits) = Ended run m rec′ (fits (p′ .settings)) × (length (p′ .settings) ≡ m .variables)
 Advanced run m p rec′ p′ (Ok (Refuted r)) = (D : Clause) × Ended run m rec′ (fails r D)
 Advanced run m p rec′ p′ (Err d) = Halted run m rec′ × (d ≡ RecordFull)
+
+-- the whole search was run
+abbrev pub Ran : Run → Machine → RecordMeaning → Position → Result Answer Decline → Type 0
+Ran run m rec′ p′ (Ok All-true) = Ended run m rec′ (fits (p′ .settings)) × (length (p′ .settings) ≡ m .variables)
+Ran run m rec′ p′ (Ok (Cannot r)) = (D : Clause) × Ended run m rec′ (fails r D)
+Ran run m rec′ p′ (Err d) = Halted run m rec′ × (d ≡ RecordFull)
+
+-- the checks of a call: nothing is refused, or this is the first refusal
+abbrev pub Refuses : Option Decline → Result (Unit {0}) Decline → Type 0
+Refuses refusal (Ok _) = refusal ≡ None
+Refuses refusal (Err d) = refusal ≡ Some d
