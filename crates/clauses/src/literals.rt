@@ -1,5 +1,6 @@
 ghost use mathlib.Core.Path.{_≡_};
 ghost use Prim.Native.Nat.{ℕ, _+_, _≤_};
+ghost use lib.IntN.{pos};
 ghost use Rattle.model.specs.Clauses.{opposite};
 ghost use Rattle.clauses.specs.Sets.{code, Coded};
 use super::Literal;
@@ -15,6 +16,13 @@ impl Literal {
         }
         let index = (at - 1) as u8;
         Some(Literal { index, on: number > 0 })
+    }
+
+    // Variable 1, on.
+    pub fn first() -> Literal
+        ensures { λ r. ⌜ code r ≡ pos 1 ⌝ }
+    {
+        Literal { index: 0, on: true }
     }
 
     pub fn opposite(self) -> Literal

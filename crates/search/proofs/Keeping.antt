@@ -1,5 +1,6 @@
 -- What every move of the search keeps.
-use mathlib.Core.Path.{_≡_, refl, subst, _∙_}
+use mathlib.Core.Path.{_≡_, refl, ap, subst, _∙_}
+use native.Mathlib.Omega.{arith}
 use Rattle.std.specs.declared.result.Result.{Result}
 use Rattle.model.specs.declared.Decline.{Decline}
 use Rattle.model.specs.Machine.{Machine}
@@ -8,13 +9,23 @@ use Rattle.search.specs.declared.State.{State}
 use Rattle.search.specs.declared.Frame.{Frame}
 use Rattle.search.specs.declared.Turn.{Turn}
 use Rattle.search.specs.declared.Next.{Next}
-use Rattle.search.specs.States.{Position, Run, Kept, Going, Stuck, Stepped, Advanced}
+use Rattle.search.specs.States.{Position, Run, Room, Kept, Going, Stuck, Stepped, Advanced}
 
 pub kept-join : {a b c : State} → Kept a b → Kept b c → Kept a c
-kept-join p q = record { file-is = q .file-is ∙ p .file-is; trail-is = q .trail-is ∙ p .trail-is; frames-is = q .frames-is ∙ p .frames-is }
+kept-join p q = record { file-is = q .file-is ∙ p .file-is; trail-is = q .trail-is ∙ p .trail-is; frames-is = q .frames-is ∙ p .frames-is; trail-sound = λ s. q .trail-sound (p .trail-sound s); frames-sound = λ s. q .frames-sound (p .frames-sound s) }
+
+-- there is room still
+pub kept-room : {a b : State} → Kept a b → Room a → Room b
+kept-room {a} {b} k r =
+    let n = ap (λ (m : Machine). m .variables) (k .file-is) in
+    let t = k .trail-is in
+    let f = k .frames-is in
+    let u = r .trail-places in
+    let v = r .frames-places in
+    record { trail-sound = k .trail-sound (r .trail-sound); frames-sound = k .frames-sound (r .frames-sound); trail-places = omega arith; frames-places = omega arith }
 
 pub kept-same : {a : State} → Kept a a
-kept-same = record { file-is = refl; trail-is = refl; frames-is = refl }
+kept-same = record { file-is = refl; trail-is = refl; frames-is = refl; trail-sound = λ s. s; frames-sound = λ s. s }
 
 -- a step of the search, of a file that means the same and an answer that is the same
 pub stepped-there : (m m′ : Machine) → m′ ≡ m → (run : Run) (rec rec′ : RecordMeaning) (p p′ : Position) (f f′ : Frame) (r r′ : Result Turn Decline) → r ≡ r′

@@ -5,3 +5,4 @@ pub mod Weights
 pub mod GoingBack
 pub mod Keeping
 pub mod GoingOn
+pub mod Sheets

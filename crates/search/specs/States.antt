@@ -35,7 +35,7 @@ use Rattle.search.specs.declared.Turn.{Turn}
 use Rattle.search.specs.declared.Turn.the-variants.{Failing, Turned}
 use Rattle.search.specs.declared.Next.{Next}
 use Rattle.search.specs.declared.Next.the-variants.{Again, Fits, Refuted}
-use Rattle.search.specs.Stacks.{items, places-of}
+use Rattle.search.specs.Stacks.{items, places-of, Sound}
 
 -- where the search stands: the setting, the trail and the frames from the lowest, and the steps made
 pub record Position : Type 0 where
@@ -50,15 +50,20 @@ position s = record { settings = now (s .settings); marks = items (s .trail); fr
 abbrev pub machine-of : State → Machine
 machine-of s = machine (now (s .file))
 
--- both stacks have a place for each variable
-abbrev pub Room : State → Type 0
-Room s = (machine-of s .variables ≤ places-of (s .trail)) × (machine-of s .variables ≤ places-of (s .frames))
+-- both stacks stand within their places, and have one for each variable
+pub record Room (s : State) : Type 0 where
+  pub trail-sound : Sound (s .trail)
+  pub frames-sound : Sound (s .frames)
+  pub trail-places : machine-of s .variables ≤ places-of (s .trail)
+  pub frames-places : machine-of s .variables ≤ places-of (s .frames)
 
--- the same file, and as many places
+-- the same file, as many places, and the stacks within them
 pub record Kept (a b : State) : Type 0 where
   pub file-is : machine-of b ≡ machine-of a
   pub trail-is : places-of (b .trail) ≡ places-of (a .trail)
   pub frames-is : places-of (b .frames) ≡ places-of (a .frames)
+  pub trail-sound : Sound (a .trail) → Sound (b .trail)
+  pub frames-sound : Sound (a .frames) → Sound (b .frames)
 
 -- the search that is run: its order, and what the record meant before it
 pub record Run : Type 0 where

@@ -12,7 +12,7 @@ use super::moves::frame_of;
 use model::Decline;
 use records::Record;
 
-impl State<'_> {
+impl State<'_, '_, '_, '_> {
     // Takes a failing clause back past the last setting.
     fn step_back<R: Record>(&mut self, record: &mut R, failure: &mut Frame) -> Result<Turn, Decline>
         requires deep { ⌜ 0 < length (position (now self) .marks) ⌝ }

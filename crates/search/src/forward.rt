@@ -20,7 +20,7 @@ use records::Record;
 use scan::Scan;
 use scan::scans::scan;
 
-impl State<'_> {
+impl State<'_, '_, '_, '_> {
     // How the clauses stand.
     fn scanned(&self) -> Scan
         requires size { ⌜ length (position (now self) .settings) ≡ machine-of (now self) .variables ⌝ }

@@ -1,7 +1,4 @@
 // The search: clauses that force a literal, choices of the order, and resolution steps on the way back, by two stacks over lent memory.
-ghost use Prim.Native.Nat.{_≤_};
-ghost use lib.ListN.{length};
-ghost use denote.Ref.{now};
 use clauses::Literal;
 use clauses::LiteralSet;
 use model::Reference;
@@ -40,17 +37,16 @@ pub struct Frame {
 struct Stack<'a, T: Copy> {
     places: &'a mut [T],
     height: usize,
-    ghost ok: { height ≤ length (now places) },
 }
 
 // Where the search stands: what every variable is set to, the trail of settings made, the frames of the branches open, and how many steps were
 // made (the largest number stands for all beyond it).
 #[derive(Drop)]
-struct State<'a> {
-    file: &'a StationFile,
-    settings: &'a mut [u8],
-    trail: Stack<'a, Mark>,
-    frames: Stack<'a, Frame>,
+struct State<'f, 's, 't, 'r> {
+    file: &'f StationFile,
+    settings: &'s mut [u8],
+    trail: Stack<'t, Mark>,
+    frames: Stack<'r, Frame>,
     made: u32,
 }
 

@@ -10,7 +10,7 @@ ghost use Rattle.model.specs.Search.{make-true, made as made-of};
 ghost use Rattle.model.specs.Machine.{clause-at};
 ghost use Rattle.clauses.specs.Sets.{code, Holds};
 ghost use Rattle.station.specs.Views.{machine};
-ghost use Rattle.search.specs.Stacks.{places-of};
+ghost use Rattle.search.specs.Stacks.{places-of, Sound};
 ghost use Rattle.search.specs.States.{position, machine-of, Kept, Past, At-choice};
 use super::Frame;
 use super::Mark;
@@ -25,10 +25,11 @@ use model::Step;
 use records::Record;
 use station::StationFile;
 
-impl State<'_> {
+impl State<'_, '_, '_, '_> {
     // Sets a literal true.
     pub(crate) fn set(&mut self, t: Literal, why: Why)
         requires within { ⌜ t .index < length (now (now self .settings)) ⌝ }
+        requires sound { ⌜ Sound (now self .trail) ⌝ }
         requires room { ⌜ length (position (now self) .marks) < places-of (now self .trail) ⌝ }
         ensures kept { λ _. ⌜ Kept (now (self .entry)) (now (self .exit)) ⌝ }
         ensures position { λ _. ⌜ position (now (self .exit)) ≡ record { settings = make-true (position (now (self .entry)) .settings) (code t); marks = position (now (self .entry)) .marks ++ (record { literal = t; why = why } ∷ []); frames = position (now (self .entry)) .frames; made = position (now (self .entry)) .made } ⌝ }
@@ -67,6 +68,7 @@ impl State<'_> {
     // Takes a failing clause back to a choice that is on: the off side is next if the clause holds the off literal.
     pub(crate) fn turn(&mut self, t: Literal, failure: &Frame) -> Turn
         requires within { ⌜ t .index < length (now (now self .settings)) ⌝ }
+        requires sound { ⌜ Sound (now self .trail) ⌝ ∗ ⌜ Sound (now self .frames) ⌝ }
         requires marks { ⌜ length (position (now self) .marks) < places-of (now self .trail) ⌝ }
         requires frames { ⌜ length (position (now self) .frames) < places-of (now self .frames) ⌝ }
         ensures kept { λ _. ⌜ Kept (now (self .entry)) (now (self .exit)) ⌝ }

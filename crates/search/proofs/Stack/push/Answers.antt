@@ -7,6 +7,6 @@ use Rattle.search.proofs.Stack.push.Needs as need
 pub returns : need.returns
 returns g c =
     let s = c .args .self .now in
-    let l = length-take-le (s .height) (s .places .now) (s .ok) in
-    let h : s .height < length (s .places .now) = omega (arith, l, c .pre) in
-    record { items = take-more-set _ _ _ h; places = simp length-set }
+    let l = length-take-le (s .height) (s .places .now) (c .pre .sound) in
+    let h : s .height < length (s .places .now) = omega (arith, l, c .pre .room) in
+    record { sound = simp length-set (omega arith); items = take-more-set _ _ _ h; places = simp length-set }

@@ -25,7 +25,7 @@ set-requires g c κs =
     let run = c .pre .going .0 in
     let s = c .pre .going .1 in
     let two = c .in-Forced .ensures tt .1 .1 .1 .1 in
-    record { within = unset-index run _ _ _ s (c .in-Forced .t) two; room = (let d = not-deep run _ _ _ s (code (c .in-Forced .t)) two in omega (arith, d, c .pre .room .0)) }
+    record { within = unset-index run _ _ _ s (c .in-Forced .t) two; sound = c .pre .room .trail-sound; room = (let d = not-deep run _ _ _ s (code (c .in-Forced .t)) two in omega (arith, d, c .pre .room .trail-places)) }
 
 pub chosen-t-requires : need.chosen-t-requires
 chosen-t-requires g c κs =
@@ -37,7 +37,7 @@ set-requires-in-Undecided g c κs =
     let s = c .pre .going .1 in
     let k = c .chosen-t .ensures in
     let two = ap (value (position (c .args .self .now) .settings)) (k .1) ∙ chosen-unset (k .2) in
-    record { within = unset-index run _ _ _ s (c .chosen-t .result) two; room = (let d = not-deep run _ _ _ s (code (c .chosen-t .result)) two in omega (arith, d, c .pre .room .0)) }
+    record { within = unset-index run _ _ _ s (c .chosen-t .result) two; sound = c .pre .room .trail-sound; room = (let d = not-deep run _ _ _ s (code (c .chosen-t .result)) two in omega (arith, d, c .pre .room .trail-places)) }
 
 pub returns-in-Forced : need.returns-in-Forced
 returns-in-Forced g c = record { kept = c .set .ensures .kept; tied = g .R·Record .stays _; advanced = λ run o s. going-forced run _ _ _ s (c .in-Forced .k) (c .in-Forced .t) (position (c .set .last .self)) (c .in-Forced .ensures tt) (c .set .ensures .position) }

@@ -8,7 +8,7 @@ use Rattle.model.specs.Machine.{Machine}
 use Rattle.search.specs.declared.Next.{Next}
 use Rattle.search.specs.declared.Next.the-variants.{Again, Fits, Refuted}
 use Rattle.search.specs.States.{Run, position, machine-of, Going, Advanced}
-use Rattle.search.proofs.Keeping.{kept-same, kept-join, advanced-there}
+use Rattle.search.proofs.Keeping.{kept-same, kept-join, kept-room, advanced-there}
 use Rattle.search.proofs.State.run.Given.{Over}
 use Rattle.search.proofs.State.run.Needs as need
 
@@ -22,7 +22,7 @@ advance-requires g c κs =
     let n = ap (λ (m : Machine). m .variables) e in
     let run = c .pre .going .0 in
     record {
-      room = (omega (arith, n, v .0 .trail-is, c .pre .room .0), omega (arith, n, v .0 .frames-is, c .pre .room .1));
+      room = kept-room (v .0) (c .pre .room);
       size = c .pre .size ∙ sym n;
       going = (run, subst (λ (m : Machine). Going run m (g .R·Record .meaning (c .loop-by .record)) (position (c .loop-by .self))) (sym e) (v .2 run (c .pre .going .1) (c .pre .going .2)));
     }

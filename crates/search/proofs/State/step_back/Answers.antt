@@ -59,19 +59,19 @@ turn-requires g c κs =
     let less = ap length last ∙ length-append (items (c .pop-mark .last .self)) (x ∷ []) in
     let o = on-frames run _ _ _ _ s _ x last (c .in-On .is) in
     let t = c .clear .ensures .kept .trail-is ∙ c .pop-mark .ensures .places in
-    record { within = omega (arith, i, l, z); marks = omega (arith, m, low, less, t, c .pre .room .0); frames = omega (arith, f, o, low, less, c .clear .ensures .kept .frames-is, c .pre .room .1) }
+    record { within = omega (arith, i, l, z); sound = (c .clear .ensures .kept .trail-sound (c .pop-mark .ensures .sound), c .clear .ensures .kept .frames-sound (c .pre .room .frames-sound)); marks = omega (arith, m, low, less, t, c .pre .room .trail-places); frames = omega (arith, f, o, low, less, c .clear .ensures .kept .frames-is, c .pre .room .frames-places) }
 
 pub pop-setter-requires : need.pop-setter-requires
 pop-setter-requires g c κs =
     let h = frame-there (c .pre .stuck .0) _ _ _ _ (c .pre .stuck .1) _ (c .pop-mark .result) (c .pop-mark .ensures .items) (c .in-Off .is) in
     let e = ap (λ z. length (z .frames)) (c .clear .ensures .position) in
-    omega (arith, h, e)
+    record { sound = c .clear .ensures .kept .frames-sound (c .pre .room .frames-sound); some = omega (arith, h, e) }
 
 pub returns-in-Break-past : need.returns-in-Break-past
 returns-in-Break-past g c =
     let q = err-from-errBy (c .from-residual .result) (c .from-residual .ensures .1) in
     record {
-      kept = kept-join (record { file-is = c .clear .ensures .kept .file-is; trail-is = c .clear .ensures .kept .trail-is ∙ c .pop-mark .ensures .places; frames-is = c .clear .ensures .kept .frames-is }) (c .past .ensures .kept);
+      kept = kept-join (record { file-is = c .clear .ensures .kept .file-is; trail-is = c .clear .ensures .kept .trail-is ∙ c .pop-mark .ensures .places; frames-is = c .clear .ensures .kept .frames-is; trail-sound = λ s. c .clear .ensures .kept .trail-sound (c .pop-mark .ensures .sound); frames-sound = c .clear .ensures .kept .frames-sound }) (c .past .ensures .kept);
       tied = c .past .ensures .tied;
       stepped = λ run s. rw (q .1, q .2) (stepped-clause run _ _ _ _ s _ (c .pop-mark .result) (c .pop-mark .ensures .items) (position (c .clear .last .self)) (position (c .past .last .self)) (c .past .last .failure) _ (c .frame-of-setter .result)
           (c .clear .ensures .position) (c .in-Clause .k) (c .in-Clause .is) (c .frame-of-setter .ensures .by)
@@ -82,7 +82,7 @@ returns-in-Break-past g c =
 pub returns-in-Continue-past : need.returns-in-Continue-past
 returns-in-Continue-past g c =
     record {
-      kept = kept-join (record { file-is = c .clear .ensures .kept .file-is; trail-is = c .clear .ensures .kept .trail-is ∙ c .pop-mark .ensures .places; frames-is = c .clear .ensures .kept .frames-is }) (c .past .ensures .kept);
+      kept = kept-join (record { file-is = c .clear .ensures .kept .file-is; trail-is = c .clear .ensures .kept .trail-is ∙ c .pop-mark .ensures .places; frames-is = c .clear .ensures .kept .frames-is; trail-sound = λ s. c .clear .ensures .kept .trail-sound (c .pop-mark .ensures .sound); frames-sound = c .clear .ensures .kept .frames-sound }) (c .past .ensures .kept);
       tied = c .past .ensures .tied;
       stepped = λ run s. stepped-clause run _ _ _ _ s _ (c .pop-mark .result) (c .pop-mark .ensures .items) (position (c .clear .last .self)) (position (c .past .last .self)) (c .past .last .failure) _ (c .frame-of-setter .result)
           (c .clear .ensures .position) (c .in-Clause .k) (c .in-Clause .is) (c .frame-of-setter .ensures .by)
@@ -93,7 +93,7 @@ returns-in-Continue-past g c =
 pub returns-in-On : need.returns-in-On
 returns-in-On g c =
     record {
-      kept = kept-join (record { file-is = c .clear .ensures .kept .file-is; trail-is = c .clear .ensures .kept .trail-is ∙ c .pop-mark .ensures .places; frames-is = c .clear .ensures .kept .frames-is }) (c .turn .ensures .kept);
+      kept = kept-join (record { file-is = c .clear .ensures .kept .file-is; trail-is = c .clear .ensures .kept .trail-is ∙ c .pop-mark .ensures .places; frames-is = c .clear .ensures .kept .frames-is; trail-sound = λ s. c .clear .ensures .kept .trail-sound (c .pop-mark .ensures .sound); frames-sound = c .clear .ensures .kept .frames-sound }) (c .turn .ensures .kept);
       tied = g .R·Record .stays _;
       stepped = λ run s. stepped-on run _ _ _ _ s _ (c .pop-mark .result) (c .pop-mark .ensures .items) (position (c .clear .last .self)) (position (c .turn .last .self)) (c .clear .ensures .position) (c .in-On .is) (c .turn .result) (c .turn .ensures .turned);
     }
@@ -102,7 +102,7 @@ pub returns-in-Break-past-2 : need.returns-in-Break-past-2
 returns-in-Break-past-2 g c =
     let q = err-from-errBy (c .from-residual-in-Break-past-2 .result) (c .from-residual-in-Break-past-2 .ensures .1) in
     record {
-      kept = kept-join (record { file-is = c .clear .ensures .kept .file-is; trail-is = c .clear .ensures .kept .trail-is ∙ c .pop-mark .ensures .places; frames-is = c .pop-setter .ensures .places ∙ c .clear .ensures .kept .frames-is }) (c .past-in-Off .ensures .kept);
+      kept = kept-join (record { file-is = c .clear .ensures .kept .file-is; trail-is = c .clear .ensures .kept .trail-is ∙ c .pop-mark .ensures .places; frames-is = c .pop-setter .ensures .places ∙ c .clear .ensures .kept .frames-is; trail-sound = λ s. c .clear .ensures .kept .trail-sound (c .pop-mark .ensures .sound); frames-sound = λ s. c .pop-setter .ensures .sound }) (c .past-in-Off .ensures .kept);
       tied = c .past-in-Off .ensures .tied;
       stepped = λ run s. rw (q .1, q .2) (stepped-off run _ _ _ _ s _ (c .pop-mark .result) (c .pop-mark .ensures .items) (position (c .clear .last .self)) (position (c .past-in-Off .last .self)) (c .past-in-Off .last .failure) _ (c .pop-setter .result)
           (c .clear .ensures .position) (c .in-Off .is) (items (c .pop-setter .last .self)) (c .pop-setter .ensures .items)
@@ -112,7 +112,7 @@ returns-in-Break-past-2 g c =
 pub returns-in-Continue-past-2 : need.returns-in-Continue-past-2
 returns-in-Continue-past-2 g c =
     record {
-      kept = kept-join (record { file-is = c .clear .ensures .kept .file-is; trail-is = c .clear .ensures .kept .trail-is ∙ c .pop-mark .ensures .places; frames-is = c .pop-setter .ensures .places ∙ c .clear .ensures .kept .frames-is }) (c .past-in-Off .ensures .kept);
+      kept = kept-join (record { file-is = c .clear .ensures .kept .file-is; trail-is = c .clear .ensures .kept .trail-is ∙ c .pop-mark .ensures .places; frames-is = c .pop-setter .ensures .places ∙ c .clear .ensures .kept .frames-is; trail-sound = λ s. c .clear .ensures .kept .trail-sound (c .pop-mark .ensures .sound); frames-sound = λ s. c .pop-setter .ensures .sound }) (c .past-in-Off .ensures .kept);
       tied = c .past-in-Off .ensures .tied;
       stepped = λ run s. stepped-off run _ _ _ _ s _ (c .pop-mark .result) (c .pop-mark .ensures .items) (position (c .clear .last .self)) (position (c .past-in-Off .last .self)) (c .past-in-Off .last .failure) _ (c .pop-setter .result)
           (c .clear .ensures .position) (c .in-Off .is) (items (c .pop-setter .last .self)) (c .pop-setter .ensures .items)

@@ -10,7 +10,7 @@ use Rattle.model.specs.Machine.{Machine}
 use Rattle.search.specs.declared.Turn.{Turn}
 use Rattle.search.specs.declared.Turn.the-variants.{Failing, Turned}
 use Rattle.search.specs.States.{Run, position, machine-of, Stuck, Stepped}
-use Rattle.search.proofs.Keeping.{kept-join, stepped-there}
+use Rattle.search.proofs.Keeping.{kept-join, kept-room, stepped-there}
 use Rattle.search.proofs.State.unwind.Given.{Over}
 use Rattle.search.proofs.State.unwind.Needs as need
 
@@ -18,11 +18,10 @@ pub step-back-requires : need.step-back-requires
 step-back-requires g c κs =
     let v = c .loop-self .inv in
     let e = v .0 .file-is in
-    let n = ap (λ (m : Machine). m .variables) e in
     let run = c .pre .stuck .0 in
     record {
       deep = omega (arith, c .loop-self-test .taken, c .height .ensures);
-      room = (omega (arith, n, v .0 .trail-is, c .pre .room .0), omega (arith, n, v .0 .frames-is, c .pre .room .1));
+      room = kept-room (v .0) (c .pre .room);
       stuck = (run, subst (λ (m : Machine). Stuck run m (g .R·Record .meaning (c .loop-self .record)) (position (c .loop-self .self)) (c .loop-self .failure)) (sym e) (v .2 run (c .pre .stuck .1)));
     }
 
