@@ -2,3 +2,4 @@ pub mod Cuts
 pub mod Files
 pub mod Pushed
 pub mod Appending
+pub mod Slips

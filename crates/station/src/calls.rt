@@ -91,7 +91,7 @@ impl StationFile {
     }
 
     // Where the literals of the clause at place i begin.
-    fn start_of(&self, i: usize) -> usize
+    pub(crate) fn start_of(&self, i: usize) -> usize
         requires { ⌜ i ≤ now self .counts .clauses ⌝ }
         ensures { λ r. ⌜ r ≡ start-of 0 (take (now (self .entry) .counts .clauses) (now (self .entry) .ends)) i ⌝ }
     {

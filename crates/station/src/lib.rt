@@ -8,6 +8,9 @@ ghost use Rattle.station.specs.Cuts.{rises, last-of};
 
 pub mod calls;
 pub mod entering;
+pub mod trials;
+
+pub use trials::Slip;
 
 // How many clauses stand, and how many literals in all.
 #[derive(Clone, Copy)]
