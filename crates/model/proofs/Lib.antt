@@ -12,3 +12,4 @@ pub mod Total
 pub mod Searched
 pub mod Merging
 pub mod Calls
+pub mod Trials

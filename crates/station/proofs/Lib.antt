@@ -3,3 +3,4 @@ pub mod Files
 pub mod Pushed
 pub mod Appending
 pub mod Slips
+pub mod Tried

@@ -47,7 +47,7 @@ module _ (f : StationFile) (kept : ℕ) (low : kept < f .counts .clauses) (tall 
         literals = omega (arith, f .«few_literals»);
         rising = rw fewer (rises-take kept 0 (ends-of f) (f .rising));
         last = ap (last-of 0) fewer ∙ (last-take kept 0 (ends-of f) (omega (arith, l)) ∙ sym e);
-        named = rw (sym (take-take literals (f .counts .literals) (f .lits) b)) (every-first (names (f .variables)) literals (take (f .counts .literals) (f .lits)) (f .named))
+        named = rw (sym (take-take literals (f .counts .literals) (f .lits) b)) (every-first (names (f .variables)) literals (take (f .counts .literals) (f .lits)) (f .named));
       }
 
   pub cut-standing : (literals : ℕ) → standing (f .lits) (f .ends) (record { clauses = kept; literals = literals }) ≡ take kept (standing (f .lits) (f .ends) (f .counts))

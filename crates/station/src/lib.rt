@@ -7,6 +7,7 @@ ghost use Rattle.model.specs.Machine.{every, names};
 ghost use Rattle.station.specs.Cuts.{rises, last-of};
 
 pub mod calls;
+pub mod clients;
 pub mod entering;
 pub mod trials;
 

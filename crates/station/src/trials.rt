@@ -89,7 +89,10 @@ impl StationFile {
     {
         if kept < self.counts.clauses {
             let literals = self.start_of(kept as usize) as u16;
-            self.counts = Counts { clauses: kept, literals };
+            self.counts = Counts {
+                clauses: kept,
+                literals,
+            };
         }
     }
 }
