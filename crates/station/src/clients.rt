@@ -12,8 +12,7 @@ pub fn would_take(file: &mut StationFile, literals: &[i32]) -> Result<u32, Decli
     let mut slip = Slip::blank();
     file.open(&mut slip)?;
     let answer = file.enter(literals);
-    file.close(&mut slip)?;
-    answer
+    file.close(&mut slip).and(answer)
 }
 
 // Enters the first literal of the clause numbered k as a clause of its own, if there is one. The literal is copied before the file changes:

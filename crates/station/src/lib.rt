@@ -9,6 +9,9 @@ ghost use Rattle.station.specs.Cuts.{rises, last-of};
 pub mod calls;
 pub mod clients;
 pub mod entering;
+pub mod questions;
+#[cfg(test)]
+mod tests;
 pub mod trials;
 
 pub use trials::Slip;
