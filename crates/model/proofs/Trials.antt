@@ -22,9 +22,16 @@ pub record Longer (m n : Machine) : Type 0 where
   pub clauses : n .clauses ≡ m .clauses ++ extra
   pub trials : n .trials ≡ m .trials
 
+-- n is m, with these clauses added
+longer-by : (m n : Machine) (extra : List Clause) → n ≡ record { variables = m .variables; number = m .number; clauses = m .clauses ++ extra; trials = m .trials } → Longer m n
+longer-by m n extra e = record { extra = extra; variables = ap (λ (x : Machine). x .variables) e; number = ap (λ (x : Machine). x .number) e; clauses = ap (λ (x : Machine). x .clauses) e; trials = ap (λ (x : Machine). x .trials) e }
+
+pub same-longer : (m n : Machine) → n ≡ m → Longer m n
+same-longer m n e = longer-by m n [] (e ∙ machine-path m _ refl refl (sym (append-nil (m .clauses))) refl)
+
 pub entry-longer : (m n : Machine) (ts : List ℤ) (r : Result ℕ Decline) → Enters m ts n r → Longer m n
-entry-longer m n ts (Ok k) e = record { extra = merged [] ts ∷ []; variables = ap (λ (x : Machine). x .variables) (e .2); number = ap (λ (x : Machine). x .number) (e .2); clauses = ap (λ (x : Machine). x .clauses) (e .2); trials = ap (λ (x : Machine). x .trials) (e .2) }
-entry-longer m n ts (Err d) e = record { extra = []; variables = ap (λ (x : Machine). x .variables) (e .1); number = ap (λ (x : Machine). x .number) (e .1); clauses = ap (λ (x : Machine). x .clauses) (e .1) ∙ sym (append-nil (m .clauses)); trials = ap (λ (x : Machine). x .trials) (e .1) }
+entry-longer m n ts (Ok k) e = longer-by m n (merged [] ts ∷ []) (e .2)
+entry-longer m n ts (Err d) e = same-longer m n (e .1)
 
 -- n is the machine in a trial that was opened at m
 module _ (m n : Machine) (l : Longer (record { variables = m .variables; number = m .number; clauses = m .clauses; trials = m .trials ++ (length (m .clauses) ∷ []) }) n) where

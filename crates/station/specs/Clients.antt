@@ -1,9 +1,11 @@
 -- What the worked clients of a station file answer and leave.
 use mathlib.Core.Path.{_≡_}
 use mathlib.Core.Logic.{_⊎_}
+use mathlib.Core.Bool.{cond}
 use mathlib.Core.List.{List, [], _∷_}
-use Prim.Native.Nat.{ℕ, _+_}
+use Prim.Native.Nat.{ℕ, _+_, _-_}
 use lib.IntN.{ℤ}
+use lib.Dec.{eqb}
 use lib.ListN.{length}
 use Rattle.std.specs.declared.option.Option.{Option}
 use Rattle.std.specs.declared.option.Option.the-variants.{Some, None}
@@ -22,6 +24,13 @@ try-refusal None entry = entry
 abbrev pub Tries : Machine → List ℤ → Machine → Result ℕ Decline → Type 0
 Tries m ts m′ (Ok k) = (try-refusal (open-refusal m blank) (enter-refusal m ts) ≡ None) × (k ≡ length (m .clauses) + 1) × (m′ ≡ m)
 Tries m ts m′ (Err e) = (try-refusal (open-refusal m blank) (enter-refusal m ts) ≡ Some e) × (m′ ≡ m)
+
+-- none before a start, and else what is left of 8
+abbrev pub spare : Machine → ℕ
+spare m = cond (eqb (m .variables) 0) 0 (8 - length (m .trials))
+
+abbrev pub Spares : Machine → Machine → ℕ → Type 0
+Spares m m′ k = (k ≡ spare m) × (m′ ≡ m)
 
 -- the first literal of a clause
 abbrev pub head-of : Option Clause → Option ℤ

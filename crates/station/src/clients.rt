@@ -1,5 +1,5 @@
-// Two small clients of a station file, proved as any other code.
-ghost use Rattle.station.specs.Clients.{Tries, FirstEntered};
+// Small clients of a station file, proved as any other code.
+ghost use Rattle.station.specs.Clients.{Tries, Spares, FirstEntered};
 ghost use Rattle.station.specs.Views.{machine};
 use super::Slip;
 use super::StationFile;
@@ -13,6 +13,19 @@ pub fn would_take(file: &mut StationFile, literals: &[i32]) -> Result<u32, Decli
     file.open(&mut slip)?;
     let answer = file.enter(literals);
     file.close(&mut slip).and(answer)
+}
+
+// How many more trials the file takes: they are opened one within the other, and closed again.
+pub fn spare_trials(file: &mut StationFile) -> u32
+    ensures { λ r. ⌜ Spares (machine (now (file .entry))) (machine (now (file .exit))) r ⌝ }
+{
+    let mut slip = Slip::blank();
+    let Ok(()) = file.open(&mut slip) else {
+        return 0;
+    };
+    let spare = spare_trials(file);
+    let _ = file.close(&mut slip);
+    spare + 1
 }
 
 // Enters the first literal of the clause numbered k as a clause of its own, if there is one. The literal is copied before the file changes:
