@@ -4,8 +4,9 @@ ghost use Prim.Native.Nat.{ℕ, _+_, _-_, _≤_, _<_};
 ghost use lib.ListN.{length, getD, take};
 ghost use Rattle.model.specs.Machine.{fresh, Starts, Enters};
 ghost use Rattle.station.specs.Views.{machine};
-use super::Counts;
 use super::Hand;
+use super::MOST_VARIABLES;
+use super::NONE;
 use super::StationFile;
 use super::entering::append;
 use model::Decline;
@@ -22,10 +23,7 @@ impl StationFile {
             ends: [0; 1000],
             marks: [0; 8],
             depth: 0,
-            counts: Counts {
-                clauses: 0,
-                literals: 0,
-            },
+            counts: NONE,
         }
     }
 
@@ -36,7 +34,7 @@ impl StationFile {
         if variables == 0 {
             return Err(Decline::BadSize);
         }
-        if variables > 200 {
+        if variables > MOST_VARIABLES {
             return Err(Decline::BadSize);
         }
         if self.depth != 0 {
@@ -44,10 +42,7 @@ impl StationFile {
         }
         self.variables = variables as u8;
         self.number = number;
-        self.counts = Counts {
-            clauses: 0,
-            literals: 0,
-        };
+        self.counts = NONE;
         Ok(())
     }
 

@@ -9,6 +9,9 @@ ghost use Rattle.model.specs.Machine.{names};
 ghost use Rattle.station.specs.Hands.{Holds, Sound, Appended, Tells};
 use super::Counts;
 use super::Hand;
+use super::MOST_CLAUSES;
+use super::MOST_DIFFERENT;
+use super::MOST_LITERALS;
 use model::Decline;
 
 fn held(part: &[i32], t: i32) -> bool
@@ -51,7 +54,7 @@ impl Hand {
     {
         self.bad = self.bad | !in_range(n, t);
         let k = self.len;
-        if k >= 25 {
+        if k > MOST_DIFFERENT {
             return;
         }
         if held(&self.kept[0..k], t) {
@@ -79,15 +82,15 @@ pub(crate) fn append(
     if hand.bad {
         return Err(Decline::BadLiteral);
     }
-    if hand.len > 24 {
+    if hand.len > MOST_DIFFERENT {
         return Err(Decline::WideClause);
     }
-    if counts.clauses >= 1000 {
+    if counts.clauses >= MOST_CLAUSES {
         return Err(Decline::ClausesFull);
     }
     let from = counts.literals as usize;
     let to = from + hand.len;
-    if to > 8000 {
+    if to > MOST_LITERALS {
         return Err(Decline::LiteralsFull);
     }
     for i in 0..hand.len {

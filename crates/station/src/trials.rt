@@ -6,6 +6,7 @@ ghost use lib.ListN.{length, getD, take};
 ghost use Rattle.model.specs.Machine.{Machine, blank, is-blank, Opens, Closes};
 ghost use Rattle.station.specs.Views.{machine, slip-state, cut-to};
 use super::Counts;
+use super::MOST_TRIALS;
 use super::StationFile;
 use model::Decline;
 
@@ -50,7 +51,7 @@ impl StationFile {
         if slip.depth != 0 {
             return Err(Decline::SlipFilled);
         }
-        if self.depth >= 8 {
+        if self.depth >= MOST_TRIALS {
             return Err(Decline::TrialsFull);
         }
         self.marks[self.depth as usize] = self.counts.clauses;

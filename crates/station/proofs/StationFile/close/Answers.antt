@@ -33,7 +33,7 @@ unfolding machine machine-in
 returns-then-slip-self c =
     let f = c .args .self .now in
     let s = c .args .slip .now in
-    let r : close-refusal (machine f) (slip-state s) ≡ Some OtherFile = rw (ne-eqb (f .variables) 0 (c .if-self-eq0 .left), slip-filled s (c .if-slip-eq0 .left), ne-eqb (s .file) (f .number) (c .if-slip-self .taken)) in
+    let r : close-refusal (machine f) (slip-state s) ≡ Some OtherFile = rw (ne-eqb (f .variables) 0 (c .if-self-eq0 .left), slip-filled s (c .if-slip-eq0 .left), ne-eqb (s .file) (f .number) (λ e. omega (arith, e, c .if-slip-self .taken))) in
     ((r, refl), (r, refl))
 
 pub returns-then-slip-self-2 : need.returns-then-slip-self-2
@@ -42,7 +42,7 @@ returns-then-slip-self-2 c =
     let f = c .args .self .now in
     let s = c .args .slip .now in
     let all : length (f .marks) ≡ 8 = search needs in
-    let r : close-refusal (machine f) (slip-state s) ≡ Some NotLatest = rw (ne-eqb (f .variables) 0 (c .if-self-eq0 .left), slip-filled s (c .if-slip-eq0 .left), eq-eqb (s .file) (f .number) (c .if-slip-self .left), ne-eqb (s .depth) (length (machine f .trials)) (λ e. c .if-slip-self-2 .taken (e ∙ trials-are f all))) in
+    let r : close-refusal (machine f) (slip-state s) ≡ Some NotLatest = rw (ne-eqb (f .variables) 0 (c .if-self-eq0 .left), slip-filled s (c .if-slip-eq0 .left), eq-eqb (s .file) (f .number) (omega (arith, c .if-slip-self .left)), ne-eqb (s .depth) (length (machine f .trials)) (λ e. omega (arith, e, trials-are f all, c .if-slip-self-2 .taken))) in
     ((r, refl), (r, refl))
 
 pub returns : need.returns
@@ -52,6 +52,8 @@ returns c =
     let s = c .args .slip .now in
     let all : length (f .marks) ≡ 8 = search needs in
     let t = trials-are f all in
-    let r : close-refusal (machine f) (slip-state s) ≡ None = close-goes (machine f) (slip-state s) (record { some = omega arith; is = slip-filled s (c .if-slip-eq0 .left) ∙ ap₂ filled (c .if-slip-self .left) (c .if-slip-self-2 .left ∙ sym t) }) in
-    let m = c .cut .ensures ∙ machine-path _ (closed (machine f)) refl refl (ap (λ k. take k (machine f .clauses)) (sym (latest f all (λ e. c .if-slip-eq0 .left (c .if-slip-self-2 .left ∙ e))))) (sym (others f all)) in
+    let same : s .file ≡ f .number = omega (arith, c .if-slip-self .left) in
+    let deep : s .depth ≡ f .depth = omega (arith, c .if-slip-self-2 .left) in
+    let r : close-refusal (machine f) (slip-state s) ≡ None = close-goes (machine f) (slip-state s) (record { some = omega arith; is = slip-filled s (c .if-slip-eq0 .left) ∙ ap₂ filled same (deep ∙ sym t) }) in
+    let m = c .cut .ensures ∙ machine-path _ (closed (machine f)) refl refl (ap (λ k. take k (machine f .clauses)) (sym (latest f all (λ e. c .if-slip-eq0 .left (deep ∙ e))))) (sym (others f all)) in
     ((r, refl, m), (r, refl, slip-blank _ refl))

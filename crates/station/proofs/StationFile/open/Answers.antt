@@ -28,13 +28,13 @@ returns-then-slip-ne0 c =
     let r : open-refusal (machine f) (slip-state s) ≡ Some SlipFilled = rw (ne-eqb (f .variables) 0 (c .if-self-eq0 .left), slip-filled s (c .if-slip-ne0 .taken)) in
     ((r, refl), (r, refl))
 
-pub returns-then-self-ge8 : need.returns-then-self-ge8
+pub returns-then-self-ge-MOST-TRIALS : need.returns-then-self-ge-MOST-TRIALS
 unfolding machine machine-in
-returns-then-self-ge8 c =
+returns-then-self-ge-MOST-TRIALS c =
     let f = c .args .self .now in
     let s = c .args .slip .now in
     let all : length (f .marks) ≡ 8 = search needs in
-    let r : open-refusal (machine f) (slip-state s) ≡ Some TrialsFull = rw (ne-eqb (f .variables) 0 (c .if-self-eq0 .left), slip-blank s (c .if-slip-ne0 .left), le-leb 8 (length (machine f .trials)) (omega (arith, trials-are f all, c .if-self-ge8 .taken))) in
+    let r : open-refusal (machine f) (slip-state s) ≡ Some TrialsFull = rw (ne-eqb (f .variables) 0 (c .if-self-eq0 .left), slip-blank s (c .if-slip-ne0 .left), le-leb 8 (length (machine f .trials)) (omega (arith, trials-are f all, c .if-self-ge-MOST-TRIALS .taken))) in
     ((r, refl), (r, refl))
 
 pub returns : need.returns
@@ -44,7 +44,7 @@ returns c =
     let s = c .args .slip .now in
     let all : length (f .marks) ≡ 8 = search needs in
     let tall : length (f .ends) ≡ 1000 = search needs in
-    let few : f .depth < 8 = c .if-self-ge8 .left in
+    let few : f .depth < 8 = c .if-self-ge-MOST-TRIALS .left in
     let t = trials-are f all in
     let r : open-refusal (machine f) (slip-state s) ≡ None = open-goes (machine f) (slip-state s) (record { some = omega arith; is = slip-blank s (c .if-slip-ne0 .left); few = omega (arith, t) }) in
     ((r, refl, machine-path _ _ refl refl refl (one-more f all tall few)), (r, refl, slip-filled _ (λ e. omega arith) ∙ ap (λ d. filled (f .number) (d + 1)) (sym t)))
