@@ -1,7 +1,7 @@
 -- A trial that is opened and closed leaves the machine as it was, whatever was entered in it.
 use mathlib.Core.Path.{_≡_, refl, sym, ap, _∙_}
 use mathlib.Core.List.{List, [], _∷_, _++_}
-use Prim.Native.Nat.{ℕ, _+_, _-_, _<_, _≤_}
+use Prim.Native.Nat.{ℕ, _+_, _-_, _<_}
 use native.Mathlib.Omega.{arith}
 use lib.IntN.{ℤ}
 use lib.ListN.{length, getD, take}
@@ -11,7 +11,7 @@ use Rattle.std.specs.declared.result.Result.the-variants.{Ok, Err}
 use Rattle.std.proofs.shelf.Lists.{length-push, take-at, append-nil, getD-push}
 use Rattle.model.specs.declared.Decline.{Decline}
 use Rattle.model.specs.Clauses.{Clause}
-use Rattle.model.specs.Machine.{Machine, SlipState, blank, filled, merged, Enters, close-refusal, closed}
+use Rattle.model.specs.Machine.{Machine, filled, merged, Enters, close-refusal, closed}
 use Rattle.model.proofs.Calls.{machine-path, close-goes}
 
 -- n is m with clauses added at the end

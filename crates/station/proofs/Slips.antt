@@ -1,22 +1,17 @@
 -- What a slip's state is, and what cutting a file back and opening a trial leave.
-use mathlib.Core.Path.{_≡_, refl, sym, ap, _∙_}
-use mathlib.Core.Bool.{Bool, true, false, cond}
-use mathlib.Core.List.{List, [], _∷_, _++_}
-use Prim.Native.Nat.{ℕ, min, _+_, _-_, _<_, _≤_}
+use mathlib.Core.Path.{_≡_, sym, ap, _∙_}
+use mathlib.Core.List.{[], _∷_, _++_}
+use Prim.Native.Nat.{ℕ, _+_, _-_, _<_, _≤_}
 use native.Mathlib.Omega.{arith}
-use lib.IntN.{ℤ}
-use lib.Dec.{eqb}
 use lib.ListN.{length, take, getD, set}
-use Rattle.std.proofs.shelf.Lists.{length-take, length-take-le, take-take, take-all, take-more-set, getD-take}
+use Rattle.std.proofs.shelf.Lists.{length-take-le, take-take, take-more-set, getD-take}
 use Rattle.std.proofs.shelf.Tests.{eq-eqb, ne-eqb}
-use Rattle.model.specs.Machine.{SlipState, blank, filled, is-blank, file-of, depth-of, every, names, closed}
+use Rattle.model.specs.Machine.{blank, filled, names}
 use Rattle.model.proofs.Merging.{every-first}
-use Rattle.model.proofs.Calls.{machine-path}
-use Rattle.station.specs.declared.Counts.{Counts}
 use Rattle.station.specs.declared.StationFile.{StationFile}
 use Rattle.station.specs.declared.trials.Slip.{Slip}
-use Rattle.station.specs.Cuts.{parts, last-of, rises, start-of}
-use Rattle.station.specs.Views.{standing, machine-in, machine, slip-state, cut-to}
+use Rattle.station.specs.Cuts.{parts, last-of, start-of}
+use Rattle.station.specs.Views.{standing, machine-in, machine, slip-state}
 use Rattle.station.specs.Hands.{Sound}
 use Rattle.station.proofs.Cuts.{parts-take, rises-take, last-take, start-low}
 use Rattle.station.proofs.Files.{ends-of, trials-are, count-is}

@@ -15,8 +15,7 @@ use Rattle.std.proofs.shelf.Lists.{length-push}
 use Rattle.std.proofs.shelf.Tests.{ne-eqb}
 use Rattle.std.specs.Results.{andOther}
 use Rattle.model.specs.declared.Decline.{Decline}
-use Rattle.model.specs.Clauses.{Clause}
-use Rattle.model.specs.Machine.{Machine, SlipState, blank, filled, Enters, Opens, Closes, opened, close-refusal, open-refusal, enter-refusal, closed}
+use Rattle.model.specs.Machine.{Machine, SlipState, blank, Enters, Opens, Closes, opened, close-refusal, open-refusal, enter-refusal, closed}
 use Rattle.model.proofs.Calls.{open-allowed}
 use Rattle.model.proofs.Trials.{Longer, entry-longer, same-longer, trial-closes, trial-leaves}
 use Rattle.station.specs.Clients.{Tries, try-refusal, Spares, spare}

@@ -1,7 +1,5 @@
 // A file and its clauses: making, starting, entering.
 ghost use mathlib.Core.Path.{_≡_};
-ghost use Prim.Native.Nat.{ℕ, _+_, _-_, _≤_, _<_};
-ghost use lib.ListN.{length, getD, take};
 ghost use Rattle.model.specs.Machine.{fresh, Starts, Enters};
 ghost use Rattle.station.specs.Views.{machine};
 use super::Hand;

@@ -1,9 +1,8 @@
 // Entering a clause: literals are gathered in a hand, which is then appended to the parts of a file.
 ghost use mathlib.Core.Path.{_≡_};
 ghost use mathlib.Core.List.{List, [], _∷_, _++_};
-ghost use Prim.Native.Nat.{ℕ, _+_, _-_, _≤_, _<_};
+ghost use Prim.Native.Nat.{ℕ};
 ghost use lib.IntN.{ℤ};
-ghost use lib.ListN.{length, getD, take, drop};
 ghost use Rattle.model.specs.Clauses.{has};
 ghost use Rattle.model.specs.Machine.{names};
 ghost use Rattle.station.specs.Hands.{Holds, Sound, Appended, Tells};

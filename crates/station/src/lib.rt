@@ -1,7 +1,7 @@
 // The station file: at most 1,000 clauses over at most 200 variables, and trials that can be taken back.
 ghost use mathlib.Core.Path.{_≡_};
 ghost use mathlib.Core.Bool.{true};
-ghost use Prim.Native.Nat.{ℕ, _≤_};
+ghost use Prim.Native.Nat.{_≤_};
 ghost use lib.ListN.{take};
 ghost use Rattle.model.specs.Machine.{every, names};
 ghost use Rattle.station.specs.Cuts.{rises, last-of};

@@ -1,6 +1,6 @@
 // What can be asked of a file: questions change nothing.
 ghost use mathlib.Core.Path.{_≡_};
-ghost use Prim.Native.Nat.{ℕ, _-_, _≤_};
+ghost use Prim.Native.Nat.{_≤_};
 ghost use lib.ListN.{length, take};
 ghost use Rattle.station.specs.Cuts.{start-of};
 ghost use Rattle.station.specs.Views.{machine, Shown};

@@ -1,9 +1,6 @@
 // Trials and their slips.
 ghost use mathlib.Core.Path.{_≡_};
-ghost use mathlib.Core.Bool.{Bool};
-ghost use Prim.Native.Nat.{ℕ, _+_, _-_, _≤_, _<_};
-ghost use lib.ListN.{length, getD, take};
-ghost use Rattle.model.specs.Machine.{Machine, blank, is-blank, Opens, Closes};
+ghost use Rattle.model.specs.Machine.{blank, is-blank, Opens, Closes};
 ghost use Rattle.station.specs.Views.{machine, slip-state, cut-to};
 use super::Counts;
 use super::MOST_TRIALS;

@@ -1,8 +1,7 @@
-use mathlib.Core.Path.{_≡_, refl, sym, ap, _∙_}
-use Prim.Native.Nat.{ℕ, _+_, _<_, _≤_}
+use mathlib.Core.Path.{_≡_, refl, sym}
 use native.Mathlib.Omega.{arith}
 use borrow.Author.Needs.{needs}
-use lib.ListN.{length, take}
+use lib.ListN.{length}
 use Rattle.std.proofs.shelf.Lists.{take-all}
 use Rattle.model.proofs.Calls.{machine-path}
 use Rattle.station.specs.Views.{machine-in, machine}
@@ -22,7 +21,7 @@ ghost-self c =
     let f = c .args .self .now in
     let tall : length (f .ends) ≡ 1000 = search needs in
     let s = cut-sound f (c .args .kept) (c .if-kept-self .taken) tall (c .start-of-literals .result) (c .start-of-literals .ensures) in
-    (f .«few_variables», (s .clauses, (s .literals, (f .«few_trials», (s .rising, (s .last, (s .named, tt)))))))
+    (f .«few_variables», (s .clauses, (omega (arith, s .literals, f .«few_literals»), (f .«few_trials», (s .rising, (s .last, (s .named, tt)))))))
 
 pub returns-then-kept-self : need.returns-then-kept-self
 unfolding machine machine-in

@@ -1,15 +1,15 @@
 use mathlib.Core.Path.{_≡_, refl, sym, ap, _∙_}
-use Prim.Native.Nat.{ℕ, _+_, _<_, _≤_}
+use Prim.Native.Nat.{_+_, _<_}
 use native.Mathlib.Omega.{arith}
 use borrow.Author.Needs.{needs}
-use lib.ListN.{length, take}
+use lib.ListN.{length}
 use Rattle.std.specs.declared.option.Option.the-variants.{Some, None}
 use Rattle.std.proofs.shelf.Tests.{eq-eqb, ne-eqb, le-leb}
 use Rattle.model.specs.declared.Decline.the-variants.{NotStarted, SlipFilled, TrialsFull}
 use Rattle.model.specs.Machine.{open-refusal, filled}
 use Rattle.model.proofs.Calls.{open-goes, machine-path}
 use Rattle.station.specs.Views.{machine-in, machine, slip-state}
-use Rattle.station.proofs.Files.{trials-are, count-is}
+use Rattle.station.proofs.Files.{trials-are}
 use Rattle.station.proofs.Slips.{slip-blank, slip-filled, one-more}
 use Rattle.station.proofs.StationFile.open.Needs as need
 

@@ -1,5 +1,4 @@
 use native.Mathlib.Omega.{arith}
-use borrow.Author.Needs.{needs}
 use Rattle.station.specs.Views.{machine, slip-state}
 use Rattle.station.proofs.Tried.{inner-slip-back, one-spare-more, fewer-left}
 use Rattle.station.proofs.clients.+spare_trials.Needs as need

@@ -1,5 +1,4 @@
 use borrow.Author.Needs.{needs}
-use Rattle.station.specs.Views.{machine, slip-state}
 use Rattle.station.proofs.Tried.{slip-back, tried}
 use Rattle.station.proofs.clients.would_take.Needs as need
 

@@ -1,5 +1,4 @@
 use mathlib.Core.Path.{refl}
-use borrow.Author.Needs.{needs}
 use Rattle.station.specs.Views.{slip-state}
 use Rattle.station.proofs.trials.Slip.blank.Needs as need
 

@@ -1,7 +1,6 @@
 use mathlib.Core.Path.{_≡_, refl}
 use mathlib.Core.Bool.{Bool, true, false, cond}
 use Prim.Native.Nat.{ℕ}
-use borrow.Author.Needs.{needs}
 use lib.Dec.{eqb}
 use Rattle.model.specs.Machine.{is-blank, blank, filled}
 use Rattle.station.specs.Views.{slip-state}
