@@ -1,15 +1,15 @@
 -- When a call on the machine is refused and when not: the tables of refusals, read both ways.
-use mathlib.Core.Path.{_≡_, refl, sym, ap, ap₂, _∙_}
+use mathlib.Core.Path.{_≡_, refl, sym, ap₂}
 use mathlib.Core.Bool.{Bool, true, false, cond, not}
 use mathlib.Core.List.{List, []}
-use Prim.Native.Nat.{ℕ, zero, suc, _+_, _<_, _≤_}
+use Prim.Native.Nat.{ℕ, _+_, _<_, _≤_}
 use native.Mathlib.Omega.{arith}
 use lib.IntN.{ℤ}
-use lib.Dec.{eqb, ltb, leb}
+use lib.Dec.{eqb}
 use lib.ListN.{length}
 use Rattle.std.specs.declared.option.Option.{Option}
 use Rattle.std.specs.declared.option.Option.the-variants.{Some, None}
-use Rattle.std.proofs.shelf.Tests.{eq-eqb, ne-eqb, eqb-true, eqb-false, lt-ltb, le-ltb, ltb-false, leb-false, le-leb, lt-leb, not-false, not-true}
+use Rattle.std.proofs.shelf.Tests.{eq-eqb, ne-eqb, eqb-true, eqb-false, le-ltb, ltb-false, leb-false, lt-leb}
 use Rattle.model.specs.declared.Decline.{Decline}
 use Rattle.model.specs.Machine.{Machine, SlipState, blank, filled, is-blank, file-of, depth-of, every, names, merged, literals, start-refusal, enter-refusal, open-refusal, close-refusal}
 

@@ -16,3 +16,4 @@ pub mod Signs
 pub mod Numbered
 pub mod Merging
 pub mod Calls
+pub mod Trials

@@ -1,9 +1,9 @@
 -- Equal literals merged: what is kept, and what holds of it.
-use mathlib.Core.Path.{_≡_, refl, sym, ap, _∙_}
-use mathlib.Core.Logic.{_⊎_, inl, inr}
-use mathlib.Core.Bool.{Bool, true, false, cond, not}
+use mathlib.Core.Path.{_≡_, refl, sym, ap, subst, _∙_}
+use mathlib.Core.Logic.{_⊎_, inl, inr, ⊎-elim}
+use mathlib.Core.Bool.{Bool, true, false, cond}
 use mathlib.Core.List.{List, [], _∷_, _++_}
-use Prim.Native.Nat.{ℕ, zero, suc, _+_, _<_, _≤_}
+use Prim.Native.Nat.{ℕ, zero, suc, _+_, _≤_}
 use native.Mathlib.Omega.{arith}
 use lib.IntN.{ℤ, pos, negsuc}
 use lib.Dec.{ltb, leb}
@@ -11,7 +11,9 @@ use lib.ListN.{length, take, drop}
 use borrow.Author.Tests.{eq-eqb, eqb-true, ltb-true, leb-true, clash}
 use Rattle.std.proofs.shelf.Lists.{length-push}
 use Rattle.model.specs.Clauses.{Clause, variable, Member, Each, _∈_, Within, Over, same, has}
+use Rattle.model.specs.Arguments.{SameLiterals}
 use Rattle.model.specs.Machine.{every, names, merged}
+use Rattle.model.proofs.Total.{in-left, in-right, in-either}
 
 pub same-refl : (t : ℤ) → same t t ≡ true
 same-refl (pos k) = eq-eqb k k refl
@@ -96,3 +98,40 @@ merged-grows seen (t ∷ ts) = look (has seen t) (merged-grows seen ts) (merged-
 pub none-merged : (ts : List ℤ) → length (merged [] ts) ≡ 0 → ts ≡ []
 none-merged [] e = refl
 none-merged (t ∷ ts) e = absurd (let g = merged-grows (t ∷ []) ts in omega arith)
+
+has-member : (C : Clause) (t : ℤ) → has C t ≡ true → t ∈ C
+has-member [] t h = absurd (clash h)
+has-member (u ∷ C) t h = look (same u t) refl (λ z. has-member C t z)
+  where
+    look : (b : Bool) → same u t ≡ b → (has C t ≡ true → t ∈ C) → t ∈ (u ∷ C)
+    look true e r = inl (sym (same-true u t e))
+    look false e r = inr (r (sym (ap (λ b. cond b true (has C t)) e) ∙ h))
+
+one-of : (t u : ℤ) → t ∈ (u ∷ []) → t ≡ u
+one-of t u (inl e) = e
+one-of t u (inr h) = absurd h
+
+-- nothing is added, and nothing is lost
+pub merged-from : (t : ℤ) (seen ts : List ℤ) → t ∈ merged seen ts → (t ∈ seen) ⊎ (t ∈ ts)
+merged-from t seen [] h = inl h
+merged-from t seen (u ∷ ts) h = look (has seen u) h (merged-from t seen ts) (merged-from t (seen ++ (u ∷ [])) ts)
+  where
+    look : (b : Bool) → t ∈ merged (cond b seen (seen ++ (u ∷ []))) ts → (t ∈ merged seen ts → (t ∈ seen) ⊎ (t ∈ ts)) → (t ∈ merged (seen ++ (u ∷ [])) ts → (t ∈ (seen ++ (u ∷ []))) ⊎ (t ∈ ts)) → (t ∈ seen) ⊎ (t ∈ (u ∷ ts))
+    look true m old new = ⊎-elim (λ (x : t ∈ seen). inl x) (λ (y : t ∈ ts). inr (inr y)) (old m)
+    look false m old new = ⊎-elim (λ (x : t ∈ (seen ++ (u ∷ []))). ⊎-elim (λ (z : t ∈ seen). inl z) (λ (w : t ∈ (u ∷ [])). inr (inl (one-of t u w))) (in-either t seen (u ∷ []) x)) (λ (y : t ∈ ts). inr (inr y)) (new m)
+
+pub merged-all : (t : ℤ) (seen ts : List ℤ) → (t ∈ seen) ⊎ (t ∈ ts) → t ∈ merged seen ts
+merged-all t seen [] (inl h) = h
+merged-all t seen [] (inr h) = absurd h
+merged-all t seen (u ∷ ts) h = look (has seen u) refl h (merged-all t seen ts) (merged-all t (seen ++ (u ∷ [])) ts)
+  where
+    look : (b : Bool) → has seen u ≡ b → (t ∈ seen) ⊎ (t ∈ (u ∷ ts)) → ((t ∈ seen) ⊎ (t ∈ ts) → t ∈ merged seen ts) → ((t ∈ (seen ++ (u ∷ []))) ⊎ (t ∈ ts) → t ∈ merged (seen ++ (u ∷ [])) ts) → t ∈ merged (cond b seen (seen ++ (u ∷ []))) ts
+    look true e (inl x) old new = old (inl x)
+    look true e (inr (inl y)) old new = old (inl (subst (λ (v : ℤ). v ∈ seen) (sym y) (has-member seen u e)))
+    look true e (inr (inr y)) old new = old (inr y)
+    look false e (inl x) old new = new (inl (in-left t seen (u ∷ []) x))
+    look false e (inr (inl y)) old new = new (inl (in-right t seen (u ∷ []) (inl y)))
+    look false e (inr (inr y)) old new = new (inr y)
+
+pub merged-same : (ts : List ℤ) → SameLiterals (merged [] ts) ts
+merged-same ts t = ((λ m. ⊎-elim (λ (x : t ∈ []). absurd x) (λ (y : t ∈ ts). y) (merged-from t [] ts m)), (λ m. merged-all t [] ts (inr m)))

@@ -1,25 +1,22 @@
 -- What appending a hand to the parts of a file does, refusal by refusal, and what an entry leaves.
 use mathlib.Core.Path.{_≡_, refl, sym, ap, _∙_}
-use mathlib.Core.Bool.{Bool, true, false, cond, not}
+use mathlib.Core.Bool.{true, false, not}
 use mathlib.Core.List.{List, [], _∷_, _++_}
 use Prim.Native.Nat.{ℕ, min, _+_, _-_, _≤_, _<_}
 use native.Mathlib.Omega.{arith}
 use lib.IntN.{ℤ}
-use lib.Dec.{eqb, leb, ltb}
+use lib.Dec.{leb, ltb}
 use lib.ListN.{length, take, drop, getD, set}
-use Rattle.std.specs.declared.option.Option.{Option}
 use Rattle.std.specs.declared.option.Option.the-variants.{Some, None}
 use Rattle.std.proofs.shelf.Lists.{take-set, take-more, append-assoc, take-all, length-take, length-take-le, take-more-set, take-take, take-at, drop-at, drop-take}
 use Rattle.std.proofs.shelf.Tests.{eq-eqb, ne-eqb, lt-ltb, le-ltb, le-leb, lt-leb}
-use Rattle.model.specs.declared.Decline.{Decline}
 use Rattle.model.specs.declared.Decline.the-variants.{NotStarted, BadLiteral, WideClause, ClausesFull, LiteralsFull}
-use Rattle.model.specs.Clauses.{Clause}
-use Rattle.model.specs.Machine.{Machine, every, names, merged, literals, enter-refusal, entered}
+use Rattle.model.specs.Machine.{every, names, merged, literals, enter-refusal}
 use Rattle.model.proofs.Merging.{every-both, every-merged}
 use Rattle.model.proofs.Calls.{machine-path}
 use Rattle.station.specs.declared.Counts.{Counts}
 use Rattle.station.specs.declared.Hand.{Hand}
-use Rattle.station.specs.Cuts.{parts, last-of, rises}
+use Rattle.station.specs.Cuts.{parts, last-of}
 use Rattle.station.specs.Views.{standing, machine-in}
 use Rattle.station.specs.Hands.{Sound, Holds, Fronts, Added}
 use Rattle.station.proofs.Cuts.{parts-same, parts-push, last-push, rises-push}

@@ -1,7 +1,7 @@
 -- What every station file is: its clauses speak of its variables, and there are few of both.
 use mathlib.Core.Path.{_≡_, refl, sym, ap, _∙_}
 use mathlib.Core.List.{List}
-use Prim.Native.Nat.{ℕ, zero, suc, min, _+_, _-_, _<_, _≤_}
+use Prim.Native.Nat.{ℕ, zero, suc, _-_, _<_, _≤_}
 use native.Mathlib.Omega.{arith}
 use lib.IntN.{ℤ}
 use lib.ListN.{length, take, drop, getD}
@@ -13,7 +13,7 @@ use Rattle.model.specs.Machine.{names, literals, clause-at}
 use Rattle.model.proofs.Merging.{clauses-over}
 use Rattle.station.specs.declared.Counts.{Counts}
 use Rattle.station.specs.declared.StationFile.{StationFile}
-use Rattle.station.specs.Cuts.{parts, start-of}
+use Rattle.station.specs.Cuts.{start-of}
 use Rattle.station.specs.Views.{standing, machine-in, machine}
 use Rattle.station.specs.Hands.{Sound}
 use Rattle.station.proofs.Cuts.{length-parts, literals-parts, parts-pass, start-is, nth-part, place-bounds}

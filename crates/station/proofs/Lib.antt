@@ -2,3 +2,6 @@ pub mod Cuts
 pub mod Files
 pub mod Pushed
 pub mod Appending
+pub mod Fronts
+pub mod Slips
+pub mod Tried

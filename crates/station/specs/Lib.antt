@@ -1,3 +1,4 @@
 pub mod Cuts
 pub mod Views
 pub mod Hands
+pub mod Clients

@@ -1,12 +1,10 @@
-// The calls on a file that change or ask its clauses.
+// A file and its clauses: making, starting, entering.
 ghost use mathlib.Core.Path.{_≡_};
-ghost use Prim.Native.Nat.{ℕ, _+_, _-_, _≤_, _<_};
-ghost use lib.ListN.{length, getD, take};
 ghost use Rattle.model.specs.Machine.{fresh, Starts, Enters};
-ghost use Rattle.station.specs.Cuts.{start-of};
-ghost use Rattle.station.specs.Views.{machine, Shown};
-use super::Counts;
+ghost use Rattle.station.specs.Views.{machine};
 use super::Hand;
+use super::MOST_VARIABLES;
+use super::NONE;
 use super::StationFile;
 use super::entering::append;
 use model::Decline;
@@ -23,10 +21,7 @@ impl StationFile {
             ends: [0; 1000],
             marks: [0; 8],
             depth: 0,
-            counts: Counts {
-                clauses: 0,
-                literals: 0,
-            },
+            counts: NONE,
         }
     }
 
@@ -37,7 +32,7 @@ impl StationFile {
         if variables == 0 {
             return Err(Decline::BadSize);
         }
-        if variables > 200 {
+        if variables > MOST_VARIABLES {
             return Err(Decline::BadSize);
         }
         if self.depth != 0 {
@@ -45,10 +40,7 @@ impl StationFile {
         }
         self.variables = variables as u8;
         self.number = number;
-        self.counts = Counts {
-            clauses: 0,
-            literals: 0,
-        };
+        self.counts = NONE;
         Ok(())
     }
 
@@ -72,45 +64,5 @@ impl StationFile {
         let more = append(*variables, lits, ends, *counts, &hand)?;
         *counts = more;
         Ok(more.clauses as u32)
-    }
-
-    // The literals of the clause numbered k, from 1, or nothing where no clause k stands.
-    pub fn show(&self, k: u32) -> Option<&[i32]>
-        ensures { λ r. ⌜ Shown (machine (now (self .entry))) k r ⌝ }
-    {
-        if k == 0 {
-            return None;
-        }
-        if k > self.counts.clauses as u32 {
-            return None;
-        }
-        let i = k as usize - 1;
-        let from = self.start_of(i);
-        let to = self.ends[i] as usize;
-        Some(&self.lits[from..to])
-    }
-
-    // Where the literals of the clause at place i begin.
-    fn start_of(&self, i: usize) -> usize
-        requires { ⌜ i ≤ now self .counts .clauses ⌝ }
-        ensures { λ r. ⌜ r ≡ start-of 0 (take (now (self .entry) .counts .clauses) (now (self .entry) .ends)) i ⌝ }
-    {
-        if i == 0 {
-            return 0;
-        }
-        self.ends[i - 1] as usize
-    }
-
-    pub fn variables(&self) -> u8
-        ensures { λ r. ⌜ r ≡ machine (now (self .entry)) .variables ⌝ }
-    {
-        self.variables
-    }
-
-    // How many clauses stand.
-    pub fn clauses(&self) -> u32
-        ensures { λ r. ⌜ r ≡ length (machine (now (self .entry)) .clauses) ⌝ }
-    {
-        self.counts.clauses as u32
     }
 }

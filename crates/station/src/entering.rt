@@ -1,14 +1,16 @@
 // Entering a clause: literals are gathered in a hand, which is then appended to the parts of a file.
 ghost use mathlib.Core.Path.{_≡_};
 ghost use mathlib.Core.List.{List, [], _∷_, _++_};
-ghost use Prim.Native.Nat.{ℕ, _+_, _-_, _≤_, _<_};
+ghost use Prim.Native.Nat.{ℕ};
 ghost use lib.IntN.{ℤ};
-ghost use lib.ListN.{length, getD, take, drop};
 ghost use Rattle.model.specs.Clauses.{has};
 ghost use Rattle.model.specs.Machine.{names};
 ghost use Rattle.station.specs.Hands.{Holds, Sound, Appended, Tells};
 use super::Counts;
 use super::Hand;
+use super::MOST_CLAUSES;
+use super::MOST_DIFFERENT;
+use super::MOST_LITERALS;
 use model::Decline;
 
 fn held(part: &[i32], t: i32) -> bool
@@ -51,7 +53,7 @@ impl Hand {
     {
         self.bad = self.bad | !in_range(n, t);
         let k = self.len;
-        if k >= 25 {
+        if k > MOST_DIFFERENT {
             return;
         }
         if held(&self.kept[0..k], t) {
@@ -79,15 +81,15 @@ pub(crate) fn append(
     if hand.bad {
         return Err(Decline::BadLiteral);
     }
-    if hand.len > 24 {
+    if hand.len > MOST_DIFFERENT {
         return Err(Decline::WideClause);
     }
-    if counts.clauses >= 1000 {
+    if counts.clauses >= MOST_CLAUSES {
         return Err(Decline::ClausesFull);
     }
     let from = counts.literals as usize;
     let to = from + hand.len;
-    if to > 8000 {
+    if to > MOST_LITERALS {
         return Err(Decline::LiteralsFull);
     }
     for i in 0..hand.len {

@@ -1,18 +1,17 @@
-use mathlib.Core.Path.{_≡_, refl, sym, ap, subst, _∙_}
+use mathlib.Core.Path.{_≡_, sym, ap, _∙_}
 use mathlib.Core.List.{List, [], _∷_, _++_}
 use Prim.Native.Nat.{ℕ, _+_, _≤_}
-use native.Mathlib.Omega.{arith}
 use borrow.Author.Needs.{needs}
 use lib.IntN.{ℤ, pos}
 use lib.ListN.{length, take, getD}
-use mir.Val.{SFits, toZ, ofZ}
+use mir.Val.{SFits}
 use mir.Syntax.{w32}
 use Rattle.std.proofs.shelf.Signed.{toZ-ofZ}
 use Rattle.std.proofs.shelf.Lists.{take-all, take-more}
 use Rattle.std.proofs.shelf.Results.{err-from-errBy}
 use Rattle.station.specs.declared.Hand.{Hand}
 use Rattle.station.specs.Hands.{Holds}
-use Rattle.station.specs.Views.{machine-in, machine}
+use Rattle.station.specs.Views.{machine}
 use Rattle.station.proofs.Files.{count-is}
 use Rattle.station.proofs.StationFile.enter.Needs as need
 

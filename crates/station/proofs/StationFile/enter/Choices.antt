@@ -1,4 +1,3 @@
-use mathlib.Core.Path.{_≡_}
 use lib.ListN.{take}
 use Rattle.station.specs.Hands.{Holds}
 use Rattle.station.proofs.StationFile.enter.Given as given

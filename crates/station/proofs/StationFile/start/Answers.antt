@@ -14,7 +14,7 @@ returns-then-self-ne0 c =
     let f = c .args .self .now in
     let n = c .args .variables in
     let all : length (f .marks) ≡ 8 = search needs in
-    (rw (ne-eqb n 0 (c .if-variables-eq0 .left), le-ltb 200 n (c .if-variables-gt200 .left), ne-eqb (length (machine f .trials)) 0 (λ e. omega (arith, trials-are f all, c .if-self-ne0 .taken))), refl)
+    (rw (ne-eqb n 0 (c .if-variables-eq0 .left), le-ltb 200 n (c .if-variables-gt-MOST-VARIABLES .left), ne-eqb (length (machine f .trials)) 0 (λ e. omega (arith, trials-are f all, c .if-self-ne0 .taken))), refl)
 
 pub ghost-self : need.ghost-self
 unfolding rises last-of

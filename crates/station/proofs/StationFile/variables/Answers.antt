@@ -1,5 +1,4 @@
 use mathlib.Core.Path.{refl}
-use borrow.Author.Needs.{needs}
 use Rattle.station.specs.Views.{machine-in, machine}
 use Rattle.station.proofs.StationFile.variables.Needs as need
 

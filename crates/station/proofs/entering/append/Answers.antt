@@ -1,12 +1,12 @@
 use mathlib.Core.Path.{_≡_, refl, sym, ap, _∙_}
 use mathlib.Core.Bool.{Bool, true, false, not}
-use mathlib.Core.List.{List, _++_}
-use Prim.Native.Nat.{ℕ, _+_, _-_, _≤_, _<_}
+use mathlib.Core.List.{_++_}
+use Prim.Native.Nat.{_+_, _≤_, _<_}
 use native.Mathlib.Omega.{arith}
 use borrow.Author.Needs.{needs}
 use lib.IntN.{pos}
 use lib.ListN.{length, take, getD}
-use mir.Val.{SFits, toZ, ofZ}
+use mir.Val.{SFits}
 use mir.Syntax.{w32}
 use Rattle.std.proofs.shelf.Signed.{toZ-ofZ}
 use Rattle.std.proofs.shelf.Lists.{length-set, length-take-le}
@@ -23,23 +23,23 @@ returns-then-hand c =
     let full : length (h .kept) ≡ 25 = search needs in
     λ ts g. record { same-lits = refl; same-ends = refl; refused = is-bad (c .args .n) _ _ _ h full (c .told-lits) (c .told-ends) (c .pre) ts g (c .if-n-eq0 .left) (c .if-hand .taken) }
 
-pub returns-then-hand-gt24 : need.returns-then-hand-gt24
-returns-then-hand-gt24 c =
+pub returns-then-hand-gt-MOST-DIFFERENT : need.returns-then-hand-gt-MOST-DIFFERENT
+returns-then-hand-gt-MOST-DIFFERENT c =
     let h = c .args .hand .now in
     let full : length (h .kept) ≡ 25 = search needs in
-    λ ts g. record { same-lits = refl; same-ends = refl; refused = is-wide (c .args .n) _ _ _ h full (c .told-lits) (c .told-ends) (c .pre) ts g (c .if-n-eq0 .left) (c .if-hand .left) (c .if-hand-gt24 .taken) }
+    λ ts g. record { same-lits = refl; same-ends = refl; refused = is-wide (c .args .n) _ _ _ h full (c .told-lits) (c .told-ends) (c .pre) ts g (c .if-n-eq0 .left) (c .if-hand .left) (c .if-hand-gt-MOST-DIFFERENT .taken) }
 
-pub returns-then-counts-ge1000 : need.returns-then-counts-ge1000
-returns-then-counts-ge1000 c =
+pub returns-then-counts-ge-MOST-CLAUSES : need.returns-then-counts-ge-MOST-CLAUSES
+returns-then-counts-ge-MOST-CLAUSES c =
     let h = c .args .hand .now in
     let full : length (h .kept) ≡ 25 = search needs in
-    λ ts g. record { same-lits = refl; same-ends = refl; refused = is-full (c .args .n) _ _ _ h full (c .told-lits) (c .told-ends) (c .pre) ts g (c .if-n-eq0 .left) (c .if-hand .left) (c .if-hand-gt24 .left) (c .if-counts-ge1000 .taken) }
+    λ ts g. record { same-lits = refl; same-ends = refl; refused = is-full (c .args .n) _ _ _ h full (c .told-lits) (c .told-ends) (c .pre) ts g (c .if-n-eq0 .left) (c .if-hand .left) (c .if-hand-gt-MOST-DIFFERENT .left) (c .if-counts-ge-MOST-CLAUSES .taken) }
 
-pub returns-then-to-gt8000 : need.returns-then-to-gt8000
-returns-then-to-gt8000 c =
+pub returns-then-to-gt-MOST-LITERALS : need.returns-then-to-gt-MOST-LITERALS
+returns-then-to-gt-MOST-LITERALS c =
     let h = c .args .hand .now in
     let full : length (h .kept) ≡ 25 = search needs in
-    λ ts g. record { same-lits = refl; same-ends = refl; refused = is-long (c .args .n) _ _ _ h full (c .told-lits) (c .told-ends) (c .pre) ts g (c .if-n-eq0 .left) (c .if-hand .left) (c .if-hand-gt24 .left) (c .if-counts-ge1000 .left) (c .if-to-gt8000 .taken) }
+    λ ts g. record { same-lits = refl; same-ends = refl; refused = is-long (c .args .n) _ _ _ h full (c .told-lits) (c .told-ends) (c .pre) ts g (c .if-n-eq0 .left) (c .if-hand .left) (c .if-hand-gt-MOST-DIFFERENT .left) (c .if-counts-ge-MOST-CLAUSES .left) (c .if-to-gt-MOST-LITERALS .taken) }
 
 pub loop-i-again : need.loop-i-again
 loop-i-again c =
@@ -67,9 +67,9 @@ returns c =
     let t : take (k .literals + h .len) (c .loop-i .lits) ≡ take (k .literals) (c .args .lits .now) ++ K = rw e at (v .1) in
     λ ts g.
     let r : every (names n) ts ≡ true = straight (every (names n) ts) (sym (g .range) ∙ c .if-hand .left) in
-    let m = all-of n (c .args .lits .now) (c .args .ends .now) k h full (c .told-lits) (c .told-ends) (c .pre) ts g (c .if-n-eq0 .left) (c .if-hand .left) (c .if-hand-gt24 .left) in
-    let fine = is-fine n (c .args .lits .now) (c .args .ends .now) k h full (c .told-lits) (c .told-ends) (c .pre) ts g (c .if-n-eq0 .left) (c .if-hand .left) (c .if-hand-gt24 .left) (c .if-counts-ge1000 .left) (c .if-to-gt8000 .left) in
-    added n (c .args .lits .now) (c .loop-i .lits) (c .args .ends .now) k K (k .literals + h .len) (c .told-lits) (c .told-ends) (c .pre) (c .if-counts-ge1000 .left) (c .if-to-gt8000 .left) long t ts r m fine
+    let m = all-of n (c .args .lits .now) (c .args .ends .now) k h full (c .told-lits) (c .told-ends) (c .pre) ts g (c .if-n-eq0 .left) (c .if-hand .left) (c .if-hand-gt-MOST-DIFFERENT .left) in
+    let fine = is-fine n (c .args .lits .now) (c .args .ends .now) k h full (c .told-lits) (c .told-ends) (c .pre) ts g (c .if-n-eq0 .left) (c .if-hand .left) (c .if-hand-gt-MOST-DIFFERENT .left) (c .if-counts-ge-MOST-CLAUSES .left) (c .if-to-gt-MOST-LITERALS .left) in
+    added n (c .args .lits .now) (c .loop-i .lits) (c .args .ends .now) k K (k .literals + h .len) (c .told-lits) (c .told-ends) (c .pre) (c .if-counts-ge-MOST-CLAUSES .left) (c .if-to-gt-MOST-LITERALS .left) long t ts r m fine
   where
     straight : (b : Bool) → not b ≡ false → b ≡ true
     straight true e = refl

@@ -1,6 +1,6 @@
 use mathlib.Core.Path.{_≡_}
 use mathlib.Core.List.{_++_}
-use Prim.Native.Nat.{_≤_, _<_, _+_}
+use Prim.Native.Nat.{_+_}
 use lib.ListN.{length, take}
 use Rattle.station.proofs.entering.append.Given as given
 

@@ -1,11 +1,10 @@
-use mathlib.Core.Path.{_≡_, refl, sym, ap, _∙_}
+use mathlib.Core.Path.{_≡_, sym, ap, _∙_}
 use mathlib.Core.Bool.{true, false, cond}
 use Prim.Native.Nat.{_+_}
 use lib.IntN.{pos}
-use lib.ListN.{length, getD, drop}
+use lib.ListN.{getD, drop}
 use mir.Val.{SFits, toZ, ofZ}
 use mir.Syntax.{w32}
-use native.Mathlib.Omega.{arith}
 use borrow.Author.Needs.{needs}
 use Rattle.std.proofs.shelf.Lists.{drop-more, drop-all}
 use Rattle.std.proofs.shelf.Signed.{toZ-ofZ}
