@@ -41,8 +41,8 @@ counts ws =
     None
 
 -- what a line's words spell
-unfoldable pub spellings : Piece → List (List ℕ)
-spellings l = map (λ w. w .1) (words l)
+unfoldable pub spellings : List ℕ → List (List ℕ)
+spellings line = map (λ w. w .1) (words (0, line))
 
 -- where reading stands
 
@@ -71,7 +71,7 @@ unfoldable pub step-before : State → Piece → Token → Step
 step-before s p (number t) = stop (problem-fault (p .0))
 step-before s p no-number = stop (word-fault (p .0))
 step-before s p comment = on s
-step-before s p problem = head s (p .0) (counts (spellings p))
+step-before s p problem = head s (p .0) (counts (spellings (p .1)))
 step-before s p line-end = on s
 
 -- after the problem line
@@ -145,5 +145,5 @@ variables-in [] = None
 variables-in ((p, number t) ∷ ts) = variables-in ts
 variables-in ((p, no-number) ∷ ts) = variables-in ts
 variables-in ((p, comment) ∷ ts) = variables-in ts
-variables-in ((p, problem) ∷ ts) = variables-told (counts (spellings p))
+variables-in ((p, problem) ∷ ts) = variables-told (counts (spellings (p .1)))
 variables-in ((p, line-end) ∷ ts) = variables-in ts

@@ -34,11 +34,14 @@ ends-line b = eqb b 10
 abbrev pub blank : ℕ → Bool
 blank b = eqb b 32 || (eqb b 9 || eqb b 13)
 
+abbrev pub ends-word : ℕ → Bool
+ends-word b = ends-line b || blank b
+
 unfoldable pub lines : List ℕ → List Piece
 lines text = split ends-line 0 text
 
 unfoldable pub words : Piece → List Piece
-words (at, line) = filled (split blank at line)
+words (at, line) = filled (split ends-word at line)
 
 -- a number; a word that is none; a line that c opens; a line that p opens; the end of a line
 pub data Token : Type 0 where

@@ -1,0 +1,5 @@
+pub mod Pieces
+pub mod Rests
+pub mod Digits
+pub mod Heads
+pub mod StepsTaken
