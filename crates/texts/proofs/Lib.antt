@@ -3,3 +3,5 @@ pub mod Rests
 pub mod Digits
 pub mod Heads
 pub mod StepsTaken
+pub mod Passing
+pub mod Given

@@ -51,13 +51,13 @@ pub fn variables_of(text: &[u8]) -> Option<u32>
     let mut reader = Reader::over(text);
     loop {
         match reader.next() {
-            Ok(None) => return None,
-            Ok(Some(p)) => {
+            Err(_) => {}
+            Ok(found) => {
+                let p = found?;
                 if let Token::Problem(line) = p.token {
                     return Some(counts_of(line)?.variables);
                 }
             }
-            Err(_) => {}
         }
     }
 }
