@@ -5,3 +5,5 @@ pub mod Heads
 pub mod StepsTaken
 pub mod Passing
 pub mod Given
+pub mod Accepting
+pub mod Course

@@ -6,9 +6,13 @@ ghost use denote.Ref.{now};
 mod numbers;
 mod spans;
 mod words;
+pub mod laws;
 pub mod problems;
 pub mod reading;
 pub mod scan;
+
+#[cfg(test)]
+mod tests;
 
 // A text and how far it is read; `fresh` where a line begins.
 #[derive(Drop)]
