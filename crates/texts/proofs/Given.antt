@@ -5,15 +5,24 @@ use Prim.Native.Nat.{ℕ}
 use denote.Ref.{now, RefT}
 use Rattle.std.specs.declared.option.Option.{Option}
 use Rattle.std.specs.declared.option.Option.the-variants.{Some, None}
+use lib.IntN.{ℤ}
+use Rattle.std.specs.declared.result.Result.{Result}
 use Rattle.std.specs.declared.result.Result.the-variants.{Ok, Err}
 use Rattle.texts.specs.declared.Reader.{Reader}
 use Rattle.texts.specs.declared.Placed.{Placed as Read}
 use Rattle.texts.specs.declared.Token.{Token as Cut}
 use Rattle.texts.specs.declared.Token.the-variants.{Number, Comment, Problem, LineEnd}
 use Rattle.model.specs.declared.ProblemLine.{ProblemLine}
-use Rattle.model.specs.Words.{Placed, Piece, Token, number, no-number, comment, problem, line-end}
+use Rattle.model.specs.declared.WordFault.{WordFault}
+use Rattle.model.specs.Numbers.{integer}
+use Rattle.model.specs.Words.{Placed, Piece, Token, number, no-number, comment, problem, line-end, spelt}
 use Rattle.model.specs.Reading.{counts, spellings, variables-told, variables-in}
-use Rattle.texts.specs.Scan.{rest-of, meaning, bytes-of, kind-of, Gives}
+use Rattle.texts.specs.Scan.{rest-of, meaning, bytes-of, kind-of, NumberAt, Cuts, Gives}
+
+-- a word that was passed, by what it is as a number
+pub cuts-by : (a b : Reader) (at : ℕ) (w : List ℕ) → rest-of a ≡ ((at, w), spelt (integer w)) ∷ rest-of b → (r : Result Read WordFault) → NumberAt at w r → Cuts a b r
+cuts-by a b at w e (Ok p) q = e ∙ ap (λ (z : Placed). z ∷ rest-of b) (sym q)
+cuts-by a b at w e (Err f) q = (w, e ∙ (ap (λ (o : Option ℤ). ((at, w), spelt o) ∷ rest-of b) (q .0) ∙ ap (λ (k : ℕ). ((k, w), no-number) ∷ rest-of b) (sym (q .1))))
 
 pub gave : (a b : Reader) (o : Option Read) → Gives a b (Ok o) → (p : Read) → o ≡ Some p → rest-of a ≡ meaning p ∷ rest-of b
 gave a b o g p e = let Q : Option Read → Type 0 = λ x. Gives a b (Ok x) in subst Q e g

@@ -10,8 +10,6 @@ use lib.Dec.{eqb}
 use lib.ListN.{length, getD, take, drop}
 use Rattle.std.proofs.shelf.Tests.{eqb-true, ne-eqb, or-cases, or-parts, cases-lt, true≢false}
 use Rattle.std.proofs.shelf.Lists.{take-append-drop, drop-drop, drop-more, drop-all, length-take-le, length-drop, length-append, getD-take, getD-drop, take-more}
-use lib.IntN.{ℤ}
-use Rattle.std.specs.declared.option.Option.{Option}
 use Rattle.model.specs.Numbers.{integer}
 use Rattle.model.specs.Words.{Piece, Placed, Token, comment, problem, line-end, spelt, split, grow, words, word-tokens, ends-line, ends-word, blank, line-tokens, all-tokens, lines, tokens}
 use Rattle.texts.specs.Scan.{Clear, Stops, Spans, after-line, rest-pieces, rest-tokens}
@@ -215,7 +213,7 @@ no-line-end b h = or-parts (ends-line b) (blank b) h .0
 pub no-word-end : (b : ℕ) → b ≢ 10 → blank b ≡ false → ends-word b ≡ false
 no-word-end b h e = rw (ne-eqb b 10 h, e)
 
--- a reader passed the word w, which writes o
-pub passed-word : (f : Bool) (text : List ℕ) (at to : ℕ) → Spans ends-word text at to → at < length text → ends-word (getD text at 0) ≡ false → (f ≡ true → (getD text at 0 ≢ 99) × (getD text at 0 ≢ 112)) → (w : List ℕ) → w ≡ take (to - at) (drop at text) → (o : Option ℤ) → integer w ≡ o → (g : Bool) (k : ℕ) (t : List ℕ) → g ≡ false → k ≡ to → t ≡ text → rest-tokens f at (drop at text) ≡ ((at, w), spelt o) ∷ rest-tokens g k (drop k t)
-passed-word f text at to s l n p w e o i g k t a b d =
-    next-word f text at to s l n p ∙ (ap (λ z. ((at, z), spelt (integer z)) ∷ rest-tokens false to (drop to text)) (sym e) ∙ (ap (λ (z : Option ℤ). ((at, w), spelt z) ∷ rest-tokens false to (drop to text)) i ∙ ap (λ z. ((at, w), spelt o) ∷ z) (left-there g k t false to text a b d)))
+-- a reader passed the word w
+pub passed-word : (f : Bool) (text : List ℕ) (at to : ℕ) → Spans ends-word text at to → at < length text → ends-word (getD text at 0) ≡ false → (f ≡ true → (getD text at 0 ≢ 99) × (getD text at 0 ≢ 112)) → (w : List ℕ) → w ≡ take (to - at) (drop at text) → (g : Bool) (k : ℕ) (t : List ℕ) → g ≡ false → k ≡ to → t ≡ text → rest-tokens f at (drop at text) ≡ ((at, w), spelt (integer w)) ∷ rest-tokens g k (drop k t)
+passed-word f text at to s l n p w e g k t a b d =
+    next-word f text at to s l n p ∙ (ap (λ z. ((at, z), spelt (integer z)) ∷ rest-tokens false to (drop to text)) (sym e) ∙ ap (λ z. ((at, w), spelt (integer w)) ∷ z) (left-there g k t false to text a b d))

@@ -19,8 +19,8 @@ use Rattle.texts.specs.declared.Token.the-variants.{Number, Comment, Problem, 
 use Rattle.texts.specs.declared.LineKind.{LineKind}
 use Rattle.texts.specs.declared.LineKind.the-variants.{Comment as CommentLine, Problem as ProblemLine, Number as NumberLine, Other as OtherLine}
 use Rattle.model.specs.declared.WordFault.{WordFault}
-use Rattle.model.specs.Numbers.{digit}
-use Rattle.model.specs.Words.{Piece, Placed, Token, number, no-number, comment, problem, line-end, words, split, ends-line, ends-word, blank, word-tokens, line-tokens, all-tokens}
+use Rattle.model.specs.Numbers.{digit, integer}
+use Rattle.model.specs.Words.{Piece, Placed, Token, number, no-number, comment, problem, line-end, spelt, words, split, ends-line, ends-word, blank, word-tokens, line-tokens, all-tokens}
 
 -- below a million, as six digits write
 abbrev pub Small : Option ℕ → Type 0
@@ -90,6 +90,11 @@ kind-of (LineEnd e) = line-end
 
 abbrev pub meaning : Read → Placed
 meaning p = ((p .place, bytes-of (p .token)), kind-of (p .token))
+
+-- a word at a place, as a number
+abbrev pub NumberAt : ℕ → List ℕ → Result Read WordFault → Type 0
+NumberAt at w (Ok p) = meaning p ≡ ((at, w), spelt (integer w))
+NumberAt at w (Err e) = (integer w ≡ None) × (e .place ≡ at)
 
 -- one token is given out, or a word that is no number is passed
 abbrev pub Cuts : Reader → Reader → Result Read WordFault → Type 0

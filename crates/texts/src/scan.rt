@@ -6,7 +6,7 @@ ghost use Prim.Native.Nat.{_+_, _-_, _≤_, _<_};
 ghost use lib.ListN.{length, getD, take, drop};
 ghost use denote.Ref.{now};
 ghost use Rattle.model.specs.Words.{tokens};
-ghost use Rattle.texts.specs.Scan.{text-of, rest-of, meaning, Skipped, AtWord, Plain, Lined, Cuts, Gives};
+ghost use Rattle.texts.specs.Scan.{text-of, rest-of, meaning, Skipped, AtWord, Plain, Lined, NumberAt, Cuts, Gives};
 use model::WordFault;
 use super::LineKind;
 use super::Placed;
@@ -17,6 +17,16 @@ use super::spans::is_blank;
 use super::spans::kind_of_line;
 use super::spans::line_to;
 use super::spans::word_to;
+
+// The number that a word writes, at its place.
+fn number_at<'a>(place: usize, word: &'a [u8]) -> Result<Placed<'a>, WordFault>
+    ensures { λ r. ⌜ NumberAt place (now (word .entry)) r ⌝ }
+{
+    match integer(word) {
+        Some(t) => Ok(Placed { place, token: Token::Number(word, t) }),
+        None => Err(WordFault { place }),
+    }
+}
 
 impl<'a> Reader<'a> {
     pub fn over(text: &'a [u8]) -> Reader<'a>
@@ -87,10 +97,7 @@ impl<'a> Reader<'a> {
         let place = self.at;
         let to = word_to(self.text, place);
         let word = self.cut(to);
-        match integer(word) {
-            Some(t) => Ok(Placed { place, token: Token::Number(word, t) }),
-            None => Err(WordFault { place }),
-        }
+        number_at(place, word)
     }
     // The first token of a line.
     fn opening(&mut self) -> Result<Placed<'a>, WordFault>

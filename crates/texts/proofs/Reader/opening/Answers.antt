@@ -7,9 +7,9 @@ use native.Mathlib.Omega.{arith}
 use lib.ListN.{length, getD}
 use lib.IntN.{ℤ}
 use borrow.Author.Needs.{needs}
-use Rattle.std.specs.declared.option.Option.the-variants.{Some, None}
+use Rattle.std.specs.declared.option.Option.{Option}
 use Rattle.model.specs.Numbers.{digit}
-use Rattle.model.specs.Words.{Placed, ends-word}
+use Rattle.model.specs.Words.{Placed, spelt, ends-word}
 use Rattle.texts.specs.Scan.{rest-of}
 use Rattle.texts.proofs.Digits.{no-integer}
 use Rattle.texts.proofs.Rests.{comment-line, problem-line, first-of, part-long, went-on, passed-word}
@@ -41,6 +41,6 @@ returns-in-Other c =
     let long : 0 < length word = omega (arith, ap length (w .part) ∙ part-long ends-word text (r .at) to s l n, went-on ends-word text (r .at) to s l n) in
     let none = no-integer word long (ap digit first ∙ o .2) (λ e. o .3 (sym first ∙ e)) in
     record {
-      cuts = (word, passed-word (r .fresh) text (r .at) to s l n (λ _. (o .0, o .1)) word (w .part) None none (b .fresh) (b .at) (b .text .now) (w .fresh) (w .at) (w .text));
+      cuts = (word, passed-word (r .fresh) text (r .at) to s l n (λ _. (o .0, o .1)) word (w .part) (b .fresh) (b .at) (b .text .now) (w .fresh) (w .at) (w .text) ∙ ap (λ (o : Option ℤ). ((r .at, word), spelt o) ∷ rest-of b) none);
       text = w .text
     }
