@@ -16,7 +16,7 @@ use Rattle.texts.proofs.numbers.natural.Needs as need
 use Rattle.texts.proofs.numbers.natural.Needs.{then-b-lt48·by·then-b-lt48, then-b-lt48·by·else-b-lt48·then-b-gt57}
 
 pub returns-then-w-lt1 : need.returns-then-w-lt1
-returns-then-w-lt1 c = record { small = tt; value = bad-length (c .args .w .now) (⊎-elim (λ a. inl a) (λ a. inr (a .1)) (c .then-w-lt1 .either)) }
+returns-then-w-lt1 c = record { small = tt; value = bad-length (c .args .w .now) (⊎-elim (λ a. inl a) (λ a. inr (omega (arith, a .1))) (c .then-w-lt1 .either)) }
 
 pub returns-then-b-lt48 : need.returns-then-b-lt48
 returns-then-b-lt48 c =
@@ -41,4 +41,4 @@ returns c =
     let v = c .loop-b .inv in
     let l = c .loop-b-test .left in
     let top : 10 ^ i ≤ 10 ^ 6 = pow-le-pow-right (let z : 0 < 10 = omega arith in z) (let z : i ≤ 6 = omega arith in z) in
-    record { small = omega (arith, top, v .0); value = good-digits w (c .loop-b .v) (c .if-w-lt1 .left) (c .if-w-gt6 .left) (sym (v .1) ∙ digits-done w i l) (sym (value-done w i (c .loop-b .v) l) ∙ v .2) }
+    record { small = omega (arith, top, v .0); value = good-digits w (c .loop-b .v) (omega arith) (omega arith) (sym (v .1) ∙ digits-done w i l) (sym (value-done w i (c .loop-b .v) l) ∙ v .2) }
