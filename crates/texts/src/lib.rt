@@ -40,7 +40,7 @@ pub struct Placed<'a> {
 }
 
 // What the first byte of a line opens.
-#[derive(Clone, Copy, PartialEq, Eq, Debug)]
+#[derive(Clone, Copy)]
 pub enum LineKind {
     Comment,
     Problem,
