@@ -1,15 +1,14 @@
 -- The examples of docs/rule-texts.md, computed.
 use mathlib.Core.Path.{_≡_, refl}
 use mathlib.Core.List.{List, [], _∷_}
-use Prim.Native.Nat.{ℕ}
 use lib.Chars.{codes}
 use lib.IntN.{ℤ, pos, negsuc}
 use Rattle.model.specs.declared.Decline.the-variants.{BadLiteral}
 use Rattle.model.specs.Faults.{word-fault, problem-fault, variables-fault, clauses-fault, file-fault}
 use Rattle.model.specs.Numbers.{digits, decimal-value, natural, integer}
-use Rattle.model.specs.Words.{Placed, number, comment, problem, line-end, grow, split, filled, lines, words, word-tokens, line-tokens, all-tokens, tokens}
+use Rattle.model.specs.Words.{number, comment, problem, line-end, grow, split, filled, lines, words, word-tokens, line-tokens, all-tokens, tokens}
 use Rattle.model.specs.Machine.{Machine}
-use Rattle.model.specs.Reading.{Reading, accepted, faulty, same-bytes, counts, spellings, head, enter-hand, took, step-before, step-after, step-on, step, finish-on, finish, run, reading}
+use Rattle.model.specs.Reading.{accepted, faulty, same-bytes, counts, spellings, head, enter-hand, took, step-before, step-after, step-on, step, finish-on, finish, run, reading}
 
 -- a file of 2 variables
 abbrev two : List (List ℤ) → Machine

@@ -1,7 +1,5 @@
 -- What a fault of reading says: its number, its place and its layer.
 use Prim.Native.Nat.{ℕ}
-use Rattle.model.specs.declared.WordFault.{WordFault}
-use Rattle.model.specs.declared.TextFault.{TextFault}
 use Rattle.model.specs.declared.TextFault.the-variants.{InWord, Problem, Variables, Clauses}
 use Rattle.model.specs.declared.ReadFault.{ReadFault}
 use Rattle.model.specs.declared.ReadFault.the-variants.{InText, InFile}

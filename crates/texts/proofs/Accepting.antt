@@ -1,9 +1,9 @@
 -- Accepted texts are those of the stated form whose clauses the machine takes.
-use mathlib.Core.Path.{_≡_, refl, sym, ap, _∙_, subst}
+use mathlib.Core.Path.{_≡_, refl, sym, ap, _∙_}
 use mathlib.Core.Bool.{Bool, true, false, cond}
 use mathlib.Core.List.{List, [], _∷_, _++_}
 use mathlib.Core.Logic.{_≢_}
-use Prim.Native.Nat.{ℕ, zero, suc, _+_, _≤_, _<_}
+use Prim.Native.Nat.{ℕ, zero, suc, _+_}
 use native.Mathlib.Omega.{arith}
 use lib.IntN.{ℤ, pos, negsuc}
 use lib.Dec.{eqb}
@@ -16,9 +16,9 @@ use Rattle.model.specs.declared.Decline.the-variants.{NotStarted}
 use Rattle.model.specs.declared.ProblemLine.{ProblemLine}
 use Rattle.model.specs.declared.ReadFault.{ReadFault}
 use Rattle.model.specs.Faults.{clauses-fault, variables-fault, file-fault}
-use Rattle.model.specs.Words.{Piece, Placed, Token, number, no-number, comment, problem, line-end, tokens}
+use Rattle.model.specs.Words.{Placed, number, no-number, comment, problem, line-end, tokens}
 use Rattle.model.specs.Machine.{Machine, enter-refusal, entered}
-use Rattle.model.specs.Reading.{State, Step, on, stop, Reading, accepted, faulty, counts, spellings, head, enter-hand, took, step-before, step-after, step-on, step, finish-on, finish, run, begun, reading}
+use Rattle.model.specs.Reading.{State, Step, on, stop, accepted, faulty, counts, spellings, head, enter-hand, took, step-before, step-after, step-on, step, finish-on, finish, run, begun, reading}
 use Rattle.texts.proofs.Course.{holds-literal}
 use Rattle.texts.specs.Form.{Clauses, all, new-line, literal, ended, Form, remark, empty-line, headed, TakesAll, Accepts}
 
@@ -40,12 +40,12 @@ at-end : (size c : ℕ) (m : Machine) (d : ℕ) (h : List ℤ) (k : ℕ) (m′ :
 unfolding finish finish-on
 at-end size c m d [] k m′ e = look (eqb d c) refl e
   where
-  look : (b : Bool) → eqb d c ≡ b → cond b (accepted d m) (faulty (clauses-fault size)) ≡ accepted k m′ → Rest c m d [] [] k m′
-  look true t q =
-      let same : m ≡ m′ = cc in
-      let kd : d ≡ k = cc in
-      record { clauses = []; spelled = all; taken = same; count = omega arith; told = omega (arith, eqb-true d c t) }
-  look false t q = not-both (clauses-fault size) k m′ q
+    look : (b : Bool) → eqb d c ≡ b → cond b (accepted d m) (faulty (clauses-fault size)) ≡ accepted k m′ → Rest c m d [] [] k m′
+    look true t q =
+        let same : m ≡ m′ = cc in
+        let kd : d ≡ k = cc in
+        record { clauses = []; spelled = all; taken = same; count = omega arith; told = omega (arith, eqb-true d c t) }
+    look false t q = not-both (clauses-fault size) k m′ q
 at-end size c m d (t ∷ h) k m′ e = not-both (clauses-fault size) k m′ e
 
 not-zero : (k : ℕ) → pos (suc k) ≢ pos 0
@@ -65,21 +65,24 @@ after size c m d h ((p, line-end) ∷ ts) k m′ e =
     record { clauses = r .clauses; spelled = new-line h p ts (r .clauses) (r .spelled); taken = r .taken; count = r .count; told = r .told }
 after size c m d h ((p, number t) ∷ ts) k m′ e = look (λ m₁ d₁ h₁. after size c m₁ d₁ h₁ ts k m′) t e
   where
-  Again : Type 0
-  Again = (m₁ : Machine) (d₁ : ℕ) (h₁ : List ℤ) → run size (on (st c m₁ d₁ h₁)) ts ≡ accepted k m′ → Rest c m₁ d₁ h₁ ts k m′
-  more : Again → (t : ℤ) → t ≢ pos 0 → run size (on (st c m d (h ++ (t ∷ [])))) ts ≡ accepted k m′ → Rest c m d h ((p, number t) ∷ ts) k m′
-  more again t z q =
-      let r = again m d (h ++ (t ∷ [])) q in
-      record { clauses = r .clauses; spelled = literal h p t ts (r .clauses) z (r .spelled); taken = r .taken; count = r .count; told = r .told }
-  close : Again → (o : Option Decline) → enter-refusal m h ≡ o → run size (enter-hand (st c m d h) (p .0) o) ts ≡ accepted k m′ → Rest c m d h ((p, number (pos 0)) ∷ ts) k m′
-  close again (Some x) z q = not-both _ k m′ q
-  close again None z q =
-      let r = again (entered m h) (suc d) [] q in
-      record { clauses = h ∷ r .clauses; spelled = ended h p ts (r .clauses) (r .spelled); taken = (z, r .taken); count = omega (arith, r .count); told = omega (arith, r .told) }
-  look : Again → (t : ℤ) → run size (took (st c m d h) (p .0) t) ts ≡ accepted k m′ → Rest c m d h ((p, number t) ∷ ts) k m′
-  look again (pos zero) q = close again (enter-refusal m h) refl q
-  look again (pos (suc j)) q = more again (pos (suc j)) (not-zero j) q
-  look again (negsuc j) q = more again (negsuc j) (not-neg j) q
+    Again : Type 0
+    Again = (m₁ : Machine) (d₁ : ℕ) (h₁ : List ℤ) → run size (on (st c m₁ d₁ h₁)) ts ≡ accepted k m′ → Rest c m₁ d₁ h₁ ts k m′
+
+    more : Again → (t : ℤ) → t ≢ pos 0 → run size (on (st c m d (h ++ (t ∷ [])))) ts ≡ accepted k m′ → Rest c m d h ((p, number t) ∷ ts) k m′
+    more again t z q =
+        let r = again m d (h ++ (t ∷ [])) q in
+        record { clauses = r .clauses; spelled = literal h p t ts (r .clauses) z (r .spelled); taken = r .taken; count = r .count; told = r .told }
+
+    close : Again → (o : Option Decline) → enter-refusal m h ≡ o → run size (enter-hand (st c m d h) (p .0) o) ts ≡ accepted k m′ → Rest c m d h ((p, number (pos 0)) ∷ ts) k m′
+    close again (Some x) z q = not-both _ k m′ q
+    close again None z q =
+        let r = again (entered m h) (suc d) [] q in
+        record { clauses = h ∷ r .clauses; spelled = ended h p ts (r .clauses) (r .spelled); taken = (z, r .taken); count = omega (arith, r .count); told = omega (arith, r .told) }
+
+    look : Again → (t : ℤ) → run size (took (st c m d h) (p .0) t) ts ≡ accepted k m′ → Rest c m d h ((p, number t) ∷ ts) k m′
+    look again (pos zero) q = close again (enter-refusal m h) refl q
+    look again (pos (suc j)) q = more again (pos (suc j)) (not-zero j) q
+    look again (negsuc j) q = more again (negsuc j) (not-neg j) q
 
 record Whole (m : Machine) (ts : List Placed) (k : ℕ) (m′ : Machine) : Type 0 where
   pub clauses : List (List ℤ)
@@ -100,27 +103,28 @@ before size m ((p, number t) ∷ ts) k m′ e = not-both _ k m′ e
 before size m ((p, no-number) ∷ ts) k m′ e = not-both _ k m′ e
 before size m ((p, problem) ∷ ts) k m′ e = look (counts (spellings (p .1))) refl e
   where
-  fits : (v c : ℕ) (b : Bool) → eqb v (m .variables) ≡ b → counts (spellings (p .1)) ≡ Some (record { variables = v; clauses = c }) → run size (cond b (on (st c m 0 [])) (stop (variables-fault (p .0)))) ts ≡ accepted k m′ → Whole m ((p, problem) ∷ ts) k m′
-  fits v c true t n q =
-      let r = after size c m 0 [] ts k m′ q in
-      let z : c ≡ length (r .clauses) = omega (arith, r .told) in
-      let y : counts (spellings (p .1)) ≡ Some (record { variables = m .variables; clauses = length (r .clauses) }) = n ∙ (ap (λ (x : ℕ). Some (record { variables = x; clauses = c })) (eqb-true v (m .variables) t) ∙ ap (λ (x : ℕ). Some (record { variables = m .variables; clauses = x })) z) in
-      record { clauses = r .clauses; form = headed (m .variables) p ts (r .clauses) y (r .spelled); taken = r .taken; count = omega (arith, r .count) }
-  fits v c false t n q = not-both _ k m′ q
-  look : (o : Option ProblemLine) → counts (spellings (p .1)) ≡ o → run size (head (begun m) (p .0) o) ts ≡ accepted k m′ → Whole m ((p, problem) ∷ ts) k m′
-  look None n q = not-both _ k m′ q
-  look (Some line) n q = fits (line .variables) (line .clauses) (eqb (line .variables) (m .variables)) refl n q
+    fits : (v c : ℕ) (b : Bool) → eqb v (m .variables) ≡ b → counts (spellings (p .1)) ≡ Some (record { variables = v; clauses = c }) → run size (cond b (on (st c m 0 [])) (stop (variables-fault (p .0)))) ts ≡ accepted k m′ → Whole m ((p, problem) ∷ ts) k m′
+    fits v c true t n q =
+        let r = after size c m 0 [] ts k m′ q in
+        let z : c ≡ length (r .clauses) = omega (arith, r .told) in
+        let y : counts (spellings (p .1)) ≡ Some (record { variables = m .variables; clauses = length (r .clauses) }) = n ∙ (ap (λ (x : ℕ). Some (record { variables = x; clauses = c })) (eqb-true v (m .variables) t) ∙ ap (λ (x : ℕ). Some (record { variables = m .variables; clauses = x })) z) in
+        record { clauses = r .clauses; form = headed (m .variables) p ts (r .clauses) y (r .spelled); taken = r .taken; count = omega (arith, r .count) }
+    fits v c false t n q = not-both _ k m′ q
+
+    look : (o : Option ProblemLine) → counts (spellings (p .1)) ≡ o → run size (head (begun m) (p .0) o) ts ≡ accepted k m′ → Whole m ((p, problem) ∷ ts) k m′
+    look None n q = not-both _ k m′ q
+    look (Some line) n q = fits (line .variables) (line .clauses) (eqb (line .variables) (m .variables)) refl n q
 
 pub there : (m : Machine) (text : List ℕ) (k : ℕ) (m′ : Machine) → reading m text ≡ accepted k m′ → Accepts m text k m′
 unfolding reading
 there m text k m′ e = look (eqb (m .variables) 0) refl e
   where
-  look : (b : Bool) → eqb (m .variables) 0 ≡ b → cond b (faulty (file-fault 0 NotStarted)) (run (length text) (on (begun m)) (tokens text)) ≡ accepted k m′ → Accepts m text k m′
-  look true t q = not-both _ k m′ q
-  look false t q =
-      let r = before (length text) m (tokens text) k m′ q in
-      let ne : m .variables ≢ 0 = eqb-false (m .variables) 0 t in
-      record { clauses = r .clauses; started = omega arith; form = r .form; taken = r .taken; count = r .count }
+    look : (b : Bool) → eqb (m .variables) 0 ≡ b → cond b (faulty (file-fault 0 NotStarted)) (run (length text) (on (begun m)) (tokens text)) ≡ accepted k m′ → Accepts m text k m′
+    look true t q = not-both _ k m′ q
+    look false t q =
+        let r = before (length text) m (tokens text) k m′ q in
+        let ne : m .variables ≢ 0 = eqb-false (m .variables) 0 t in
+        record { clauses = r .clauses; started = omega arith; form = r .form; taken = r .taken; count = r .count }
 
 after-back : (size c : ℕ) (m : Machine) (d : ℕ) (h : List ℤ) (ts : List Placed) (cs : List (List ℤ)) (m′ : Machine) → Clauses h ts cs → TakesAll m cs m′ → c ≡ d + length cs → run size (on (st c m d h)) ts ≡ accepted c m′
 unfolding run step step-on step-after took enter-hand finish finish-on

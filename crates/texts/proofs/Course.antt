@@ -16,7 +16,7 @@ use Rattle.model.specs.declared.ReadFault.{ReadFault}
 use Rattle.model.specs.Faults.{problem-fault, clauses-fault, file-fault}
 use Rattle.model.specs.Words.{Placed, tokens}
 use Rattle.model.specs.Machine.{Machine, enter-refusal, entered}
-use Rattle.model.specs.Reading.{State, Step, on, stop, Reading, accepted, faulty, holding, enter-hand, took, step, finish-on, finish, run, begun, reading}
+use Rattle.model.specs.Reading.{State, Step, on, stop, accepted, faulty, holding, enter-hand, took, finish-on, finish, run, begun, reading}
 use Rattle.texts.specs.Steps.{Idle, Takes, Ends}
 
 -- the start
@@ -50,9 +50,9 @@ module _ (size : ℕ) (s : State) (ts left : List Placed) where
   unfolding run
   run-ends e = ap (run size (on s)) (sym (append-none ts)) ∙ run-idle size s ts [] (e .0)
     where
-    append-none : (us : List Placed) → us ++ [] ≡ us
-    append-none [] = refl
-    append-none (u ∷ us) = ap (λ z. u ∷ z) (append-none us)
+      append-none : (us : List Placed) → us ++ [] ≡ us
+      append-none [] = refl
+      append-none (u ∷ us) = ap (λ z. u ∷ z) (append-none us)
 
 pub fewer : (s : State) (ts left : List Placed) (st : Step) → Takes s ts left st → length left < length ts
 fewer s ts left st k = omega (arith, ap length (k .tokens), length-append (k .idle) (k .token ∷ left))
@@ -88,9 +88,9 @@ pub ends-inside : (size : ℕ) (s : State) (c : ℕ) → s .declared ≡ Some c 
 unfolding finish finish-on
 ends-inside size s c e h = ap (λ (o : Option ℕ). finish-on size o (s .hand) s) e ∙ look (s .hand) h
   where
-  look : (hand : List ℤ) → hand ≢ [] → finish-on size (Some c) hand s ≡ faulty (clauses-fault size)
-  look [] h = absurd (h refl)
-  look (t ∷ ts) h = refl
+    look : (hand : List ℤ) → hand ≢ [] → finish-on size (Some c) hand s ≡ faulty (clauses-fault size)
+    look [] h = absurd (h refl)
+    look (t ∷ ts) h = refl
 
 pub other-count : (size : ℕ) (s : State) (c : ℕ) → s .declared ≡ Some c → s .hand ≡ [] → s .done ≢ c → finish size s ≡ faulty (clauses-fault size)
 unfolding finish finish-on

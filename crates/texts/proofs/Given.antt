@@ -15,7 +15,7 @@ use Rattle.texts.specs.declared.Token.the-variants.{Number, Comment, Problem, 
 use Rattle.model.specs.declared.ProblemLine.{ProblemLine}
 use Rattle.model.specs.declared.WordFault.{WordFault}
 use Rattle.model.specs.Numbers.{integer}
-use Rattle.model.specs.Words.{Placed, Piece, Token, number, no-number, comment, problem, line-end, spelt}
+use Rattle.model.specs.Words.{Placed, Piece, no-number, spelt}
 use Rattle.model.specs.Reading.{counts, spellings, variables-told, variables-in}
 use Rattle.texts.specs.Scan.{rest-of, meaning, bytes-of, kind-of, NumberAt, Cuts, Gives}
 
@@ -44,11 +44,11 @@ pub past-token : (ts us : List Placed) (p : Read) → ts ≡ meaning p ∷ us �
 unfolding variables-in
 past-token ts us p e h = look (p .token) h ∙ sym (ap variables-in e)
   where
-  look : (t : Cut) → ((l : RefT (List ℕ)) → t ≡ Problem l → ⊥) → variables-in us ≡ variables-in (((p .place, bytes-of t), kind-of t) ∷ us)
-  look (Number w t) h = refl
-  look (Comment l) h = refl
-  look (Problem l) h = absurd (h l refl)
-  look (LineEnd l) h = refl
+    look : (t : Cut) → ((l : RefT (List ℕ)) → t ≡ Problem l → ⊥) → variables-in us ≡ variables-in (((p .place, bytes-of t), kind-of t) ∷ us)
+    look (Number w t) h = refl
+    look (Comment l) h = refl
+    look (Problem l) h = absurd (h l refl)
+    look (LineEnd l) h = refl
 
 pub at-problem : (ts us : List Placed) (p : Read) (l : RefT (List ℕ)) (o : Option ProblemLine) → ts ≡ meaning p ∷ us → p .token ≡ Problem l → o ≡ counts (spellings (now l)) → variables-told o ≡ variables-in ts
 unfolding variables-in

@@ -1,11 +1,11 @@
 -- What splitting gives, and the words of a line.
 use mathlib.Core.Path.{_≡_, refl, sym, ap, _∙_}
-use mathlib.Core.Bool.{Bool, true, false, cond, _||_}
+use mathlib.Core.Bool.{Bool, true, false, cond}
 use mathlib.Core.List.{List, [], _∷_, _++_, append-nil}
-use Prim.Native.Nat.{ℕ, suc, _+_, _≤_, _<_}
+use Prim.Native.Nat.{ℕ, suc, _+_, _<_}
 use native.Mathlib.Omega.{arith}
 use lib.ListN.{length}
-use Rattle.model.specs.Words.{Piece, grow, split, filled, words, ends-line, ends-word, blank}
+use Rattle.model.specs.Words.{Piece, grow, split, filled, words, ends-line, ends-word}
 use Rattle.texts.specs.Scan.{Clear, Stops}
 
 pub split-piece : (cuts : ℕ → Bool) (at : ℕ) (w : List ℕ) (s : ℕ) (rest : List ℕ) → Clear cuts w → cuts s ≡ true → split cuts at (w ++ (s ∷ rest)) ≡ (at, w) ∷ split cuts (suc (at + length w)) rest
@@ -46,9 +46,9 @@ unfolding split grow beyond
 split-front cuts at [] = refl
 split-front cuts at (b ∷ bs) = look (cuts b) (ap (grow at b) (split-front cuts (suc at) bs))
   where
-  look : (t : Bool) → grow at b (split cuts (suc at) bs) ≡ (at, b ∷ front cuts bs) ∷ beyond cuts (suc at) bs → cond t ((at, []) ∷ split cuts (suc at) bs) (grow at b (split cuts (suc at) bs)) ≡ (at, cond t [] (b ∷ front cuts bs)) ∷ cond t (split cuts (suc at) bs) (beyond cuts (suc at) bs)
-  look true e = refl
-  look false e = e
+    look : (t : Bool) → grow at b (split cuts (suc at) bs) ≡ (at, b ∷ front cuts bs) ∷ beyond cuts (suc at) bs → cond t ((at, []) ∷ split cuts (suc at) bs) (grow at b (split cuts (suc at) bs)) ≡ (at, cond t [] (b ∷ front cuts bs)) ∷ cond t (split cuts (suc at) bs) (beyond cuts (suc at) bs)
+    look true e = refl
+    look false e = e
 
 pub front-++ : (cuts : ℕ → Bool) (w t : List ℕ) → Clear cuts w → front cuts (w ++ t) ≡ w ++ front cuts t
 front-++ cuts [] t c = refl
@@ -66,9 +66,9 @@ pub front-stops : (t : List ℕ) → Stops ends-word t → Stops ends-word (fron
 front-stops [] s = tt
 front-stops (b ∷ t) s = look (ends-line b) refl
   where
-  look : (e : Bool) → ends-line b ≡ e → Stops ends-word (cond e [] (b ∷ front ends-line t))
-  look true h = tt
-  look false h = s
+    look : (e : Bool) → ends-line b ≡ e → Stops ends-word (cond e [] (b ∷ front ends-line t))
+    look true h = tt
+    look false h = s
 
 -- words
 

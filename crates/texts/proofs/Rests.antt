@@ -2,8 +2,8 @@
 use mathlib.Core.Path.{_≡_, refl, sym, ap, _∙_, subst}
 use mathlib.Core.Bool.{Bool, true, false, cond, _||_}
 use mathlib.Core.List.{List, [], _∷_, _++_, append-nil}
-use mathlib.Core.Logic.{_⊎_, _≢_, inl, inr, ⊎-elim}
-use Prim.Native.Nat.{ℕ, zero, suc, _+_, _-_, _≤_, _<_}
+use mathlib.Core.Logic.{_⊎_, _≢_, ⊎-elim}
+use Prim.Native.Nat.{ℕ, suc, _+_, _-_, _≤_, _<_}
 use native.Mathlib.Omega.{arith}
 use native.Mathlib.Nat.{add-zero}
 use lib.Dec.{eqb}
@@ -11,7 +11,7 @@ use lib.ListN.{length, getD, take, drop}
 use Rattle.std.proofs.shelf.Tests.{eqb-true, ne-eqb, or-cases, or-parts, cases-lt, true≢false}
 use Rattle.std.proofs.shelf.Lists.{take-append-drop, drop-drop, drop-more, drop-all, length-take-le, length-drop, length-append, getD-take, getD-drop, take-more}
 use Rattle.model.specs.Numbers.{integer}
-use Rattle.model.specs.Words.{Piece, Placed, Token, comment, problem, line-end, spelt, split, grow, words, word-tokens, ends-line, ends-word, blank, line-tokens, all-tokens, lines, tokens}
+use Rattle.model.specs.Words.{Piece, Placed, comment, problem, line-end, spelt, split, grow, words, word-tokens, ends-line, ends-word, blank, line-tokens, all-tokens, lines, tokens}
 use Rattle.texts.specs.Scan.{Clear, Stops, Spans, after-line, rest-pieces, rest-tokens}
 use Rattle.texts.proofs.Pieces.{split-piece, split-last, clear-++, front, beyond, split-front, front-++, beyond-++, front-stops, words-none, words-gap, words-more}
 
@@ -44,9 +44,9 @@ pub rest-line-end : (f : Bool) (at b : ℕ) (bs : List ℕ) → b ≡ 10 → res
 unfolding rest-tokens rest-pieces split line-tokens word-tokens
 rest-line-end f at b bs e = rw e (look f ∙ (ap (λ k. after-line k (split ends-line (suc at) bs)) (add-zero at) ∙ after-split at (suc at) bs))
   where
-  look : (f : Bool) → cond f (line-tokens (at, [])) (word-tokens (words (at, []))) ++ after-line (at + 0) (split ends-line (suc at) bs) ≡ after-line (at + 0) (split ends-line (suc at) bs)
-  look true = ap (λ z. word-tokens z ++ after-line (at + 0) (split ends-line (suc at) bs)) (words-none at)
-  look false = ap (λ z. word-tokens z ++ after-line (at + 0) (split ends-line (suc at) bs)) (words-none at)
+    look : (f : Bool) → cond f (line-tokens (at, [])) (word-tokens (words (at, []))) ++ after-line (at + 0) (split ends-line (suc at) bs) ≡ after-line (at + 0) (split ends-line (suc at) bs)
+    look true = ap (λ z. word-tokens z ++ after-line (at + 0) (split ends-line (suc at) bs)) (words-none at)
+    look false = ap (λ z. word-tokens z ++ after-line (at + 0) (split ends-line (suc at) bs)) (words-none at)
 
 -- a blank
 
@@ -67,11 +67,12 @@ unfolding rest-tokens split grow rest-pieces
 rest-blank f at b bs h =
     rw (blank-cases (λ x. ends-line x ≡ false) b h refl refl refl, split-front ends-line (suc at) bs) (look f ∙ ap (λ k. word-tokens (words (suc at, front ends-line bs)) ++ after-line k (beyond ends-line (suc at) bs)) z)
   where
-  z : at + suc (length (front ends-line bs)) ≡ suc at + length (front ends-line bs)
-  z = omega arith
-  look : (f : Bool) → rest-pieces f ((at, b ∷ front ends-line bs) ∷ beyond ends-line (suc at) bs) ≡ word-tokens (words (suc at, front ends-line bs)) ++ after-line (at + suc (length (front ends-line bs))) (beyond ends-line (suc at) bs)
-  look true = ap (λ y. y ++ after-line (at + suc (length (front ends-line bs))) (beyond ends-line (suc at) bs)) (blank-line at b (front ends-line bs) h)
-  look false = ap (λ y. word-tokens y ++ after-line (at + suc (length (front ends-line bs))) (beyond ends-line (suc at) bs)) (blank-words at b (front ends-line bs) h)
+    z : at + suc (length (front ends-line bs)) ≡ suc at + length (front ends-line bs)
+    z = omega arith
+
+    look : (f : Bool) → rest-pieces f ((at, b ∷ front ends-line bs) ∷ beyond ends-line (suc at) bs) ≡ word-tokens (words (suc at, front ends-line bs)) ++ after-line (at + suc (length (front ends-line bs))) (beyond ends-line (suc at) bs)
+    look true = ap (λ y. y ++ after-line (at + suc (length (front ends-line bs))) (beyond ends-line (suc at) bs)) (blank-line at b (front ends-line bs) h)
+    look false = ap (λ y. word-tokens y ++ after-line (at + suc (length (front ends-line bs))) (beyond ends-line (suc at) bs)) (blank-words at b (front ends-line bs) h)
 
 pub rest-pass : (f : Bool) (at : ℕ) (text : List ℕ) → at < length text → blank (getD text at 0) ≡ true → rest-tokens false (at + 1) (drop (at + 1) text) ≡ rest-tokens f at (drop at text)
 rest-pass f at text l h =
@@ -109,15 +110,18 @@ rest-word f at b w tail n c s =
     let m = words-more at (b ∷ w) u c (omega arith) (front-stops tail s) in
     ap (rest-pieces f) e ∙ (look f n ∙ (ap (λ z. word-tokens z ++ after-line (at + length ((b ∷ w) ++ u)) ls) m ∙ (ap (λ k. word-tokens ((at, b ∷ w) ∷ words (at + length (b ∷ w), u)) ++ after-line k ls) far ∙ ap (λ z. ((at, b ∷ w), spelt (integer (b ∷ w))) ∷ rest-pieces false z) (sym (split-front ends-line (at + length (b ∷ w)) tail)))))
   where
-  u : List ℕ
-  u = front ends-line tail
-  ls : List Piece
-  ls = beyond ends-line (at + length (b ∷ w)) tail
-  far : at + length ((b ∷ w) ++ u) ≡ (at + length (b ∷ w)) + length u
-  far = let z = length-append w u in omega (arith, z)
-  look : (f : Bool) → (f ≡ true → (b ≢ 99) × (b ≢ 112)) → rest-pieces f ((at, (b ∷ w) ++ u) ∷ ls) ≡ word-tokens (words (at, (b ∷ w) ++ u)) ++ after-line (at + length ((b ∷ w) ++ u)) ls
-  look true n = ap (λ z. z ++ after-line (at + length ((b ∷ w) ++ u)) ls) (plain-line at b (w ++ u) (n refl .0) (n refl .1))
-  look false n = refl
+    u : List ℕ
+    u = front ends-line tail
+
+    ls : List Piece
+    ls = beyond ends-line (at + length (b ∷ w)) tail
+
+    far : at + length ((b ∷ w) ++ u) ≡ (at + length (b ∷ w)) + length u
+    far = let z = length-append w u in omega (arith, z)
+
+    look : (f : Bool) → (f ≡ true → (b ≢ 99) × (b ≢ 112)) → rest-pieces f ((at, (b ∷ w) ++ u) ∷ ls) ≡ word-tokens (words (at, (b ∷ w) ++ u)) ++ after-line (at + length ((b ∷ w) ++ u)) ls
+    look true n = ap (λ z. z ++ after-line (at + length ((b ∷ w) ++ u)) ls) (plain-line at b (w ++ u) (n refl .0) (n refl .1))
+    look false n = refl
 
 -- the parts that the code cuts
 
@@ -141,8 +145,8 @@ module _ (cuts : ℕ → Bool) (text : List ℕ) (at to : ℕ) (s : Spans cuts t
   pub went-on : at < to
   went-on = ⊎-elim (λ h. h) (λ h. absurd (stuck (let z : to ≡ at = omega (arith, s .up) in z))) (cases-lt at to)
     where
-    stuck : to ≡ at → ⊥
-    stuck e = let P : ℕ → Type 0 = λ k. Stops cuts (drop k text) in let q : Stops cuts (getD text at 0 ∷ drop (at + 1) text) = rw (drop-more text at 0 l) at (subst P e (s .stops)) in true≢false (sym q ∙ n)
+      stuck : to ≡ at → ⊥
+      stuck e = let P : ℕ → Type 0 = λ k. Stops cuts (drop k text) in let q : Stops cuts (getD text at 0 ∷ drop (at + 1) text) = rw (drop-more text at 0 l) at (subst P e (s .stops)) in true≢false (sym q ∙ n)
 
   pub part-long : length part ≡ to - at
   part-long = length-take-le (to - at) (drop at text) (rw length-drop (omega (arith, s .inside)))
@@ -163,9 +167,9 @@ module _ (cuts : ℕ → Bool) (text : List ℕ) (at to : ℕ) (s : Spans cuts t
   headed-by : part ≡ getD text at 0 ∷ drop 1 part
   headed-by = split-off part (omega (arith, part-long, went-on)) first-of
     where
-    split-off : (w : List ℕ) → 0 < length w → getD w 0 0 ≡ getD text at 0 → w ≡ getD text at 0 ∷ drop 1 w
-    split-off [] h e = absurd (omega arith)
-    split-off (b ∷ w) h e = ap (λ x. x ∷ w) e
+      split-off : (w : List ℕ) → 0 < length w → getD w 0 0 ≡ getD text at 0 → w ≡ getD text at 0 ∷ drop 1 w
+      split-off [] h e = absurd (omega arith)
+      split-off (b ∷ w) h e = ap (λ x. x ∷ w) e
 
 pub next-line : (text : List ℕ) (at to : ℕ) → Spans ends-line text at to → at < length text → ends-line (getD text at 0) ≡ false → rest-tokens true at (drop at text) ≡ line-tokens (at, take (to - at) (drop at text)) ++ rest-tokens false to (drop to text)
 next-line text at to s l n =

@@ -1,17 +1,14 @@
 -- What one token does to a state.
-use mathlib.Core.Path.{_≡_, refl, sym, ap, _∙_}
-use mathlib.Core.Bool.{Bool, true, false, cond}
-use mathlib.Core.List.{List, [], _∷_, _++_}
+use mathlib.Core.Path.{_≡_, sym, ap, _∙_}
 use mathlib.Core.Logic.{_≢_}
 use Prim.Native.Nat.{ℕ}
-use lib.IntN.{ℤ}
 use Rattle.std.specs.declared.option.Option.{Option}
 use Rattle.std.specs.declared.option.Option.the-variants.{Some, None}
 use Rattle.std.proofs.shelf.Tests.{eq-eqb, ne-eqb}
 use Rattle.model.specs.declared.ProblemLine.{ProblemLine}
 use Rattle.model.specs.Faults.{problem-fault, variables-fault}
-use Rattle.model.specs.Words.{Placed, Piece, Token, problem}
-use Rattle.model.specs.Reading.{State, Step, on, stop, headed, head, counts, spellings, step-before, step-after, step-on, step}
+use Rattle.model.specs.Words.{Piece, Token, problem}
+use Rattle.model.specs.Reading.{State, on, stop, headed, head, counts, spellings, step-before, step-after, step-on, step}
 use Rattle.texts.specs.Steps.{Before, After}
 
 pub before : (n : ℕ) (s : State) → Before n s → (p : Piece) (t : Token) → step s (p, t) ≡ step-before s p t

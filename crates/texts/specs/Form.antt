@@ -5,11 +5,10 @@ use mathlib.Core.Logic.{_≢_}
 use Prim.Native.Nat.{ℕ, _<_}
 use lib.IntN.{ℤ, pos}
 use lib.ListN.{length}
-use Rattle.std.specs.declared.option.Option.{Option}
 use Rattle.std.specs.declared.option.Option.the-variants.{Some, None}
 use Rattle.model.specs.Words.{Piece, Placed, number, comment, problem, line-end, tokens}
 use Rattle.model.specs.Machine.{Machine, enter-refusal, entered}
-use Rattle.model.specs.Reading.{Reading, accepted, counts, spellings, reading}
+use Rattle.model.specs.Reading.{accepted, counts, spellings, reading}
 
 -- after the literals in hand the tokens write the clauses, each ended by 0, over any number of lines
 pub data Clauses : List ℤ → List Placed → List (List ℤ) → Type 0 where

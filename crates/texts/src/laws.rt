@@ -3,5 +3,4 @@ ghost use Rattle.texts.specs.Form.{AcceptedTexts};
 
 pub fn accepted_texts_have_the_form()
     ensures { λ _. ⌜ AcceptedTexts ⌝ }
-{
-}
+{}

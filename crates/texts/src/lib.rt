@@ -3,16 +3,15 @@ ghost use Prim.Native.Nat.{_≤_};
 ghost use lib.ListN.{length};
 ghost use denote.Ref.{now};
 
-mod numbers;
-mod spans;
-mod words;
 pub mod laws;
+mod numbers;
 pub mod problems;
 pub mod reading;
 pub mod scan;
-
+mod spans;
 #[cfg(test)]
 mod tests;
+mod words;
 
 // A text and how far it is read; `fresh` where a line begins.
 #[derive(Drop)]

@@ -3,11 +3,11 @@ ghost use mathlib.Core.Path.{_≡_};
 ghost use denote.Ref.{now};
 ghost use Rattle.model.specs.Words.{tokens};
 ghost use Rattle.model.specs.Reading.{same-bytes, counts, spellings, variables-in};
-use model::ProblemLine;
+use super::LineWords;
 use super::Reader;
 use super::Token;
-use super::LineWords;
 use super::numbers::natural;
+use model::ProblemLine;
 
 fn same(a: &[u8], b: &[u8]) -> bool
     ensures { λ r. ⌜ r ≡ same-bytes (now (a .entry)) (now (b .entry)) ⌝ }

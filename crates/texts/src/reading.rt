@@ -3,14 +3,14 @@ ghost use mathlib.Core.Path.{_≡_};
 ghost use denote.Ref.{now};
 ghost use Rattle.texts.specs.Scan.{text-of};
 ghost use Rattle.texts.specs.Steps.{Begins, Spells, Heads, Counts};
-use model::TextFault;
-use model::WordFault;
-use model::faults::TextFromWord;
 use super::Numeral;
 use super::Placed;
 use super::Reader;
 use super::Token;
 use super::problems::counts_of;
+use model::TextFault;
+use model::WordFault;
+use model::faults::TextFromWord;
 
 // One token before the problem line: the clause count, where it is that line, in a text for n variables.
 fn begun(n: u32, p: Placed<'_>) -> Result<Option<u32>, TextFault>
@@ -65,7 +65,10 @@ impl Reader<'_> {
     {
         while let Some(p) = self.next()? {
             if let Some(value) = spelled(p)? {
-                return Ok(Some(Numeral { place: p.place, value }));
+                return Ok(Some(Numeral {
+                    place: p.place,
+                    value,
+                }));
             }
         }
         Ok(None)

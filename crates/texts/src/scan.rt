@@ -1,13 +1,12 @@
 // The reader: from token to token over a text.
 ghost use mathlib.Core.Path.{_≡_};
 ghost use mathlib.Core.Bool.{true, false};
-ghost use mathlib.Core.List.{[], _∷_};
+ghost use mathlib.Core.List.{_∷_};
 ghost use Prim.Native.Nat.{_+_, _-_, _≤_, _<_};
 ghost use lib.ListN.{length, getD, take, drop};
 ghost use denote.Ref.{now};
 ghost use Rattle.model.specs.Words.{tokens};
 ghost use Rattle.texts.specs.Scan.{text-of, rest-of, meaning, Skipped, AtWord, Plain, Lined, NumberAt, Cuts, Gives};
-use model::WordFault;
 use super::LineKind;
 use super::Placed;
 use super::Reader;
@@ -17,13 +16,17 @@ use super::spans::is_blank;
 use super::spans::kind_of_line;
 use super::spans::line_to;
 use super::spans::word_to;
+use model::WordFault;
 
 // The number that a word writes, at its place.
 fn number_at<'a>(place: usize, word: &'a [u8]) -> Result<Placed<'a>, WordFault>
     ensures { λ r. ⌜ NumberAt place (now (word .entry)) r ⌝ }
 {
     match integer(word) {
-        Some(t) => Ok(Placed { place, token: Token::Number(word, t) }),
+        Some(t) => Ok(Placed {
+            place,
+            token: Token::Number(word, t),
+        }),
         None => Err(WordFault { place }),
     }
 }
@@ -33,7 +36,11 @@ impl<'a> Reader<'a> {
         ensures all { λ r. ⌜ rest-of r ≡ tokens (now (text .entry)) ⌝ }
         ensures text { λ r. ⌜ text-of r ≡ now (text .entry) ⌝ }
     {
-        Reader { text, at: 0, fresh: true }
+        Reader {
+            text,
+            at: 0,
+            fresh: true,
+        }
     }
 
     // Passes blanks.
@@ -84,7 +91,10 @@ impl<'a> Reader<'a> {
         let place = self.at;
         let end = self.cut(place + 1);
         self.fresh = true;
-        Placed { place, token: Token::LineEnd(end) }
+        Placed {
+            place,
+            token: Token::LineEnd(end),
+        }
     }
 
     // The number at the cursor.
@@ -109,8 +119,14 @@ impl<'a> Reader<'a> {
         let place = self.at;
         let text = self.text;
         match kind_of_line(text[place]) {
-            LineKind::Comment => Ok(Placed { place, token: Token::Comment(self.line()) }),
-            LineKind::Problem => Ok(Placed { place, token: Token::Problem(self.line()) }),
+            LineKind::Comment => Ok(Placed {
+                place,
+                token: Token::Comment(self.line()),
+            }),
+            LineKind::Problem => Ok(Placed {
+                place,
+                token: Token::Problem(self.line()),
+            }),
             LineKind::Number => self.word(),
             LineKind::Other => {
                 let _ = self.cut(word_to(text, place));

@@ -1,14 +1,14 @@
 // Spoilt words and lines, each with its fault and place.
-use std::test::*;
+use super::Numeral;
+use super::Reader;
+use super::problems::variables_of;
 use crate::NumeralDebug;
 use crate::NumeralPartialEq;
 use model::TextFault;
 use model::TextFaultDebug;
 use model::TextFaultPartialEq;
 use model::WordFault;
-use super::Numeral;
-use super::Reader;
-use super::problems::variables_of;
+use std::test::*;
 
 fn bad_word(place: usize) -> TextFault {
     TextFault::InWord(WordFault { place })
@@ -52,8 +52,20 @@ fn before_the_problem_line() -> Result<(), Fail> {
 
 #[test]
 fn after_the_problem_line() -> Result<(), Fail> {
-    goes_on(b"p cnf 2 1\n \n-007", Ok(Some(Numeral { place: 12, value: -7 })))?;
-    goes_on(b"p cnf 2 1\n999999", Ok(Some(Numeral { place: 10, value: 999999 })))?;
+    goes_on(
+        b"p cnf 2 1\n \n-007",
+        Ok(Some(Numeral {
+            place: 12,
+            value: -7,
+        })),
+    )?;
+    goes_on(
+        b"p cnf 2 1\n999999",
+        Ok(Some(Numeral {
+            place: 10,
+            value: 999999,
+        })),
+    )?;
     goes_on(b"p cnf 2 1\n\n", Ok(None))?;
     goes_on(b"p cnf 2 1\n\np cnf 2 1", Err(TextFault::Problem(11)))?;
     goes_on(b"p cnf 2 1\nc 7", Err(bad_word(10)))

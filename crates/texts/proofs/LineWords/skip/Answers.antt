@@ -1,6 +1,5 @@
 use mathlib.Core.Path.{sym, ap, _∙_}
 use mathlib.Core.List.{List, map}
-use borrow.Author.Needs.{needs}
 use Rattle.model.specs.Words.{Piece}
 use Rattle.texts.proofs.Rests.{words-pass}
 use Rattle.texts.proofs.LineWords.skip.Needs as need

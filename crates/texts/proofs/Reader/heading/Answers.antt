@@ -1,18 +1,13 @@
-use mathlib.Core.Path.{_≡_, refl, sym, ap, _∙_}
-use lib.IntN.{ℤ}
+use mathlib.Core.Path.{refl, ap, _∙_}
 use Prim.Native.Nat.{ℕ}
-use mir.Val.{SFits, toZ, ofZ}
-use mir.Syntax.{w32}
-use borrow.Author.Needs.{needs}
 use Rattle.std.specs.declared.option.Option.{Option}
-use Rattle.std.specs.declared.result.Result.the-variants.{Ok, Err}
+use Rattle.std.specs.declared.result.Result.the-variants.{Ok}
 use Rattle.std.proofs.shelf.Results.{err-from-errBy}
-use Rattle.std.proofs.shelf.Signed.{toZ-ofZ}
 use Rattle.model.specs.Words.{no-number}
-use Rattle.model.specs.Reading.{step, step-before, step-after, took}
-use Rattle.texts.specs.Scan.{rest-of, meaning}
-use Rattle.texts.specs.Steps.{Before, After, began, spoke}
-use Rattle.texts.proofs.StepsTaken.{before, after}
+use Rattle.model.specs.Reading.{step-before}
+use Rattle.texts.specs.Scan.{rest-of}
+use Rattle.texts.specs.Steps.{Before, began}
+use Rattle.texts.proofs.StepsTaken.{before}
 use Rattle.texts.proofs.Given.{gave, gave-none}
 use Rattle.texts.proofs.Passing.{passed-none, passed-more, passed-takes, passed-ends}
 use Rattle.texts.proofs.Reader.heading.Needs as need
@@ -28,7 +23,7 @@ returns-in-Break-p c =
     let p = err-from-errBy (c .from-residual .result) (c .from-residual .ensures .1) in
     record {
       heads = rw (p .1, p .2) (λ s h. passed-takes (Before (c .args .n)) _ _ _ _ (g .1) (v .1) s h _ (before (c .args .n) s h (_, g .0) no-number));
-      text = c .next .ensures .text ∙ v .0
+      text = c .next .ensures .text ∙ v .0;
     }
 
 pub returns-in-Break-count : need.returns-in-Break-count
@@ -39,7 +34,7 @@ returns-in-Break-count c =
     let p = err-from-errBy (c .from-residual-in-Break-count .result) (c .from-residual-in-Break-count .ensures .1) in
     record {
       heads = rw (p .1, p .2) (λ s h. passed-takes (Before (c .args .n)) _ _ _ _ g (v .1) s h _ (b s h));
-      text = c .next .ensures .text ∙ v .0
+      text = c .next .ensures .text ∙ v .0;
     }
 
 pub returns-in-Some-2 : need.returns-in-Some-2
@@ -49,7 +44,7 @@ returns-in-Some-2 c =
     let b = c .in-Continue-count .ensures tt in
     record {
       heads = λ s h. passed-takes (Before (c .args .n)) _ _ _ _ g (v .1) s h _ (b s h ∙ ap (λ (o : Option ℕ). began s (Ok o)) (c .in-Some-2 .is));
-      text = c .next .ensures .text ∙ v .0
+      text = c .next .ensures .text ∙ v .0;
     }
 
 pub loop-p-again : need.loop-p-again

@@ -1,8 +1,7 @@
-use mathlib.Core.Path.{_≡_, refl, sym, ap, _∙_}
-use mathlib.Core.Bool.{true, false}
-use mathlib.Core.List.{List, [], _∷_, _++_}
-use Prim.Native.Nat.{ℕ, _+_}
-use borrow.Author.Needs.{needs}
+use mathlib.Core.Path.{sym, ap, _∙_}
+use mathlib.Core.Bool.{false}
+use mathlib.Core.List.{_++_}
+use Prim.Native.Nat.{_+_}
 use lib.ListN.{drop, getD}
 use Rattle.model.specs.Words.{ends-line, line-tokens}
 use Rattle.texts.specs.Scan.{rest-tokens}
@@ -22,7 +21,7 @@ returns c =
     record {
       whole = record {
         opens = ap (λ z. getD z 0 0) (w .part) ∙ first-of ends-line text (r .at) to s l n;
-        rest = ap (λ z. rest-tokens z (r .at) (drop (r .at) text)) (c .pre .1) ∙ (next-line text (r .at) to s l n ∙ (ap (λ z. line-tokens (r .at, z) ++ rest-tokens false to (drop to text)) (sym (w .part)) ∙ ap (λ z. line-tokens (r .at, c .cut .result .now) ++ z) (left-there (b .fresh) (b .at) (b .text .now) false to text (w .fresh) (w .at) (w .text))))
+        rest = ap (λ z. rest-tokens z (r .at) (drop (r .at) text)) (c .pre .1) ∙ (next-line text (r .at) to s l n ∙ (ap (λ z. line-tokens (r .at, z) ++ rest-tokens false to (drop to text)) (sym (w .part)) ∙ ap (λ z. line-tokens (r .at, c .cut .result .now) ++ z) (left-there (b .fresh) (b .at) (b .text .now) false to text (w .fresh) (w .at) (w .text))));
       };
-      text = w .text
+      text = w .text;
     }

@@ -1,6 +1,5 @@
-use mathlib.Core.Path.{_≡_, refl, sym, ap, _∙_}
+use mathlib.Core.Path.{_≡_, sym, ap, _∙_}
 use mathlib.Core.List.{[]}
-use borrow.Author.Needs.{needs}
 use Rattle.std.proofs.shelf.Lists.{drop-all}
 use Rattle.texts.specs.Scan.{rest-tokens, rest-of}
 use Rattle.texts.proofs.Rests.{rest-end}

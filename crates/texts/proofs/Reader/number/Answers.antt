@@ -1,18 +1,17 @@
-use mathlib.Core.Path.{_≡_, refl, sym, ap, _∙_}
+use mathlib.Core.Path.{refl, sym, ap, _∙_}
 use lib.IntN.{ℤ}
-use Prim.Native.Nat.{ℕ}
-use mir.Val.{SFits, toZ, ofZ}
+use mir.Val.{SFits}
 use mir.Syntax.{w32}
 use borrow.Author.Needs.{needs}
 use Rattle.std.specs.declared.option.Option.{Option}
-use Rattle.std.specs.declared.result.Result.the-variants.{Ok, Err}
+use Rattle.std.specs.declared.result.Result.the-variants.{Ok}
 use Rattle.std.proofs.shelf.Results.{err-from-errBy}
 use Rattle.std.proofs.shelf.Signed.{toZ-ofZ}
 use Rattle.model.specs.Words.{no-number}
-use Rattle.model.specs.Reading.{step, step-before, step-after, took}
-use Rattle.texts.specs.Scan.{rest-of, meaning}
-use Rattle.texts.specs.Steps.{Before, After, began, spoke}
-use Rattle.texts.proofs.StepsTaken.{before, after}
+use Rattle.model.specs.Reading.{step-after, took}
+use Rattle.texts.specs.Scan.{rest-of}
+use Rattle.texts.specs.Steps.{After, spoke}
+use Rattle.texts.proofs.StepsTaken.{after}
 use Rattle.texts.proofs.Given.{gave, gave-none}
 use Rattle.texts.proofs.Passing.{passed-none, passed-more, passed-takes, passed-ends}
 use Rattle.texts.proofs.Reader.number.Needs as need
@@ -28,7 +27,7 @@ returns-in-Break-p c =
     let p = err-from-errBy (c .from-residual .result) (c .from-residual .ensures .1) in
     record {
       counts = rw (p .1, p .2) (λ s h. passed-takes After _ _ _ _ (g .1) (v .1) s h _ (after s h (_, g .0) no-number));
-      text = c .next .ensures .text ∙ v .0
+      text = c .next .ensures .text ∙ v .0;
     }
 
 pub returns-in-Break-value : need.returns-in-Break-value
@@ -39,7 +38,7 @@ returns-in-Break-value c =
     let p = err-from-errBy (c .from-residual-in-Break-value .result) (c .from-residual-in-Break-value .ensures .1) in
     record {
       counts = rw (p .1, p .2) (λ s h. passed-takes After _ _ _ _ g (v .1) s h _ (b s h));
-      text = c .next .ensures .text ∙ v .0
+      text = c .next .ensures .text ∙ v .0;
     }
 
 pub returns-in-Some-2 : need.returns-in-Some-2
@@ -51,7 +50,7 @@ returns-in-Some-2 c =
     let fit : SFits w32 t = search needs in
     record {
       counts = λ s h. passed-takes After _ _ _ _ g (v .1) s h _ (b s h ∙ ap (λ (o : Option ℤ). spoke s (c .in-Some .p .place) (Ok o)) (c .in-Some-2 .is) ∙ ap (took s (c .in-Some .p .place)) (sym (toZ-ofZ w32 t fit)));
-      text = c .next .ensures .text ∙ v .0
+      text = c .next .ensures .text ∙ v .0;
     }
 
 pub loop-p-again : need.loop-p-again

@@ -1,12 +1,9 @@
-use mathlib.Core.Path.{_≡_, refl, sym, ap, _∙_}
-use mathlib.Core.List.{List, [], _∷_, _++_}
-use mathlib.Core.Bool.{false}
-use mathlib.Core.Logic.{_≢_}
-use Prim.Native.Nat.{ℕ, _<_}
+use mathlib.Core.Path.{_≡_, sym, ap, _∙_}
+use mathlib.Core.List.{List, _∷_, _++_}
+use Prim.Native.Nat.{_<_}
 use native.Mathlib.Omega.{arith}
 use lib.ListN.{length, getD}
 use lib.IntN.{ℤ}
-use borrow.Author.Needs.{needs}
 use Rattle.std.specs.declared.option.Option.{Option}
 use Rattle.model.specs.Numbers.{digit}
 use Rattle.model.specs.Words.{Placed, spelt, ends-word}
@@ -42,5 +39,5 @@ returns-in-Other c =
     let none = no-integer word long (ap digit first ∙ o .2) (λ e. o .3 (sym first ∙ e)) in
     record {
       cuts = (word, passed-word (r .fresh) text (r .at) to s l n (λ _. (o .0, o .1)) word (w .part) (b .fresh) (b .at) (b .text .now) (w .fresh) (w .at) (w .text) ∙ ap (λ (o : Option ℤ). ((r .at, word), spelt o) ∷ rest-of b) none);
-      text = w .text
+      text = w .text;
     }

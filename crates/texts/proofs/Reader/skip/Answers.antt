@@ -1,5 +1,4 @@
 use mathlib.Core.Path.{sym, _∙_}
-use borrow.Author.Needs.{needs}
 use Rattle.texts.proofs.Rests.{rest-pass}
 use Rattle.texts.proofs.Reader.skip.Needs as need
 

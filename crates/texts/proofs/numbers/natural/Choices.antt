@@ -1,6 +1,6 @@
 use mathlib.Core.Path.{_≡_}
-use Prim.Native.Nat.{_≤_, _<_, _^_}
-use lib.ListN.{length, drop}
+use Prim.Native.Nat.{_<_, _^_}
+use lib.ListN.{drop}
 use Rattle.model.specs.Numbers.{digits, decimal-value}
 use Rattle.texts.proofs.numbers.natural.Given as given
 

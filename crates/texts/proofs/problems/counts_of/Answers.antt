@@ -1,9 +1,7 @@
-use mathlib.Core.Path.{_≡_, refl, sym, ap, _∙_}
+use mathlib.Core.Path.{_≡_, sym, ap, _∙_}
 use mathlib.Core.List.{List, [], _∷_}
 use Prim.Native.Nat.{ℕ}
 use native.Mathlib.Omega.{arith}
-use lib.ListN.{length}
-use borrow.Author.Needs.{needs}
 use Rattle.model.specs.Reading.{counts}
 use Rattle.texts.proofs.Heads.{other-length, no-variables, no-clauses, no-p, no-cnf, four-words}
 use Rattle.texts.proofs.problems.counts_of.Needs as need

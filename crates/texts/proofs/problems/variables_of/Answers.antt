@@ -1,5 +1,4 @@
-use mathlib.Core.Path.{_≡_, refl, sym, ap, _∙_}
-use borrow.Author.Needs.{needs}
+use mathlib.Core.Path.{_∙_}
 use Rattle.std.specs.declared.option.Option.the-variants.{Some, None}
 use Rattle.texts.proofs.Given.{gave, gave-none, in-none, past-word, past-token, at-problem}
 use Rattle.texts.proofs.problems.variables_of.Needs as need

@@ -1,7 +1,6 @@
-use mathlib.Core.Path.{_≡_, refl, sym, ap, _∙_}
-use borrow.Author.Needs.{needs}
+use mathlib.Core.Path.{ap, _∙_}
 use denote.Ref.{now}
-use Rattle.model.specs.Words.{Token, number, comment, problem, line-end}
+use Rattle.model.specs.Words.{Token}
 use Rattle.model.specs.Reading.{step, step-before}
 use Rattle.texts.specs.declared.Token.{Token as Cut}
 use Rattle.texts.specs.Scan.{bytes-of, kind-of}

@@ -1,11 +1,10 @@
-use mathlib.Core.Path.{_≡_, refl, sym, ap, _∙_}
-use lib.IntN.{ℤ}
-use mir.Val.{SFits, toZ, ofZ}
+use mathlib.Core.Path.{sym, ap, _∙_}
+use mir.Val.{SFits}
 use mir.Syntax.{w32}
 use borrow.Author.Needs.{needs}
 use Rattle.std.proofs.shelf.Signed.{toZ-ofZ}
-use Rattle.model.specs.Words.{Token, number, comment, problem, line-end}
-use Rattle.model.specs.Reading.{took, step, step-after}
+use Rattle.model.specs.Words.{Token}
+use Rattle.model.specs.Reading.{took, step-after}
 use Rattle.texts.specs.Scan.{bytes-of, kind-of}
 use Rattle.texts.proofs.StepsTaken.{after}
 use Rattle.texts.proofs.reading.spelled.Needs as need

@@ -1,10 +1,8 @@
-use mathlib.Core.Path.{_≡_, sym}
 use Prim.Native.Nat.{_<_}
 use lib.ListN.{length}
 use native.Mathlib.Omega.{arith}
-use borrow.Author.Needs.{needs}
 use Rattle.std.proofs.shelf.Tests.{ne-eqb, eq-eqb}
-use Rattle.model.specs.Words.{ends-line, ends-word}
+use Rattle.model.specs.Words.{ends-line}
 use Rattle.texts.proofs.Rests.{clear-more, stops-at, stops-end}
 use Rattle.texts.proofs.spans.line_to.Needs as need
 

@@ -1,8 +1,7 @@
-use mathlib.Core.Path.{_≡_, sym}
+use mathlib.Core.Path.{sym}
 use Prim.Native.Nat.{_<_}
 use lib.ListN.{length}
 use native.Mathlib.Omega.{arith}
-use borrow.Author.Needs.{needs}
 use Rattle.model.specs.Words.{ends-word}
 use Rattle.texts.proofs.Rests.{clear-more, stops-at, stops-end}
 use Rattle.texts.proofs.spans.word_to.Needs as need

@@ -1,7 +1,6 @@
-use mathlib.Core.Path.{_≡_}
 use Prim.Native.Nat.{_-_, _≤_}
 use lib.ListN.{length, take, drop}
-use Rattle.model.specs.Words.{ends-line, ends-word}
+use Rattle.model.specs.Words.{ends-word}
 use Rattle.texts.specs.Scan.{Clear}
 use Rattle.texts.proofs.spans.word_to.Given as given
 
