@@ -17,3 +17,4 @@ pub mod Numbered
 pub mod Merging
 pub mod Calls
 pub mod Trials
+pub mod TextExamples

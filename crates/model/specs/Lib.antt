@@ -5,3 +5,7 @@ pub mod Arguments
 pub mod Machine
 pub mod Settling
 pub mod Way
+pub mod Faults
+pub mod Numbers
+pub mod Words
+pub mod Reading

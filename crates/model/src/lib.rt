@@ -1,5 +1,6 @@
 // The vocabulary of the library: what every crate above names, and, in specs/, what it all means.
 pub mod declines;
+pub mod faults;
 pub mod theorems;
 
 // A clause or a resolution step, by its number from 1: R for a clause (a rule) of the file, S for a step.
@@ -43,4 +44,51 @@ pub enum Decline {
     FewPlaces,
     RecordUsed,
     RecordFull,
+}
+
+// The counts of a text's problem line.
+#[derive(Clone, Copy, PartialEq, Eq, Debug)]
+pub struct ProblemLine {
+    pub variables: u32,
+    pub clauses: u32,
+}
+
+// A place in a text is the number of bytes before it.
+
+// A word that is no number.
+#[derive(Clone, Copy, PartialEq, Eq, Debug)]
+pub struct WordFault {
+    pub place: usize,
+}
+
+// What is wrong with a text whatever the file holds: a word; the problem line is missing, repeated or malformed; its variable count
+// is not the file's; the text ends inside a clause, or its clauses are not as many as that line says.
+#[derive(Clone, Copy, PartialEq, Eq, Debug)]
+pub enum TextFault {
+    InWord(WordFault),
+    Problem(usize),
+    Variables(usize),
+    Clauses(usize),
+}
+
+// The file's own decline, at the 0 of the clause that it declines.
+#[derive(Clone, Copy, PartialEq, Eq, Debug)]
+pub struct FileFault {
+    pub place: usize,
+    pub decline: Decline,
+}
+
+// Why a text is not read.
+#[derive(Clone, Copy, PartialEq, Eq, Debug)]
+pub enum ReadFault {
+    InText(TextFault),
+    InFile(FileFault),
+}
+
+// Which layer of reading found a fault.
+#[derive(Clone, Copy, PartialEq, Eq, Debug)]
+pub enum Layer {
+    Word,
+    Text,
+    File,
 }

@@ -1,0 +1,3 @@
+pub mod Scan
+pub mod Steps
+pub mod Form
