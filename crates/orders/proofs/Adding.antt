@@ -1,15 +1,15 @@
 use mathlib.Core.Path.{_≡_, refl, sym, ap, _∙_}
 use mathlib.Core.Logic.{_≢_, _⊎_, ⊎-elim}
-use mathlib.Core.Bool.{Bool, true, false, cond}
+use mathlib.Core.Bool.{true, false, cond}
 use mathlib.Core.List.{List, [], _∷_, _++_}
 use Prim.Native.Nat.{ℕ, zero, suc, _+_, _-_, _<_, _≤_}
 use native.Mathlib.Nat.{eq-or-lt-of-le}
 use native.Mathlib.Omega.{arith}
 use lib.Dec.{eqb, ltb, leb}
 use lib.ListN.{length, getD, take}
-use borrow.Author.Tests.{eq-eqb, ne-eqb, eqb-true, lt-ltb, le-ltb, le-leb, lt-leb}
+use borrow.Author.Tests.{eq-eqb, ne-eqb, lt-ltb, le-leb}
 use Rattle.std.proofs.shelf.Lists.{take-more}
-use Rattle.std.proofs.shelf.Tests.{cases-bool, cond-true, cond-false}
+use Rattle.std.proofs.shelf.Tests.{cases-bool}
 use Rattle.model.specs.Settling.{OrderMeaning}
 use Rattle.orders.specs.Listed.{numbers, holds, wanted, listed, tally, by-preference}
 
@@ -66,19 +66,9 @@ tally-most (suc n) xs =
 pub tally-misses : (n : ℕ) (xs : List ℕ) (p : ℕ) → 0 < p → p ≤ n → holds xs p ≡ false → tally n xs < n
 tally-misses n xs p z h f = let e = tally-push n xs p z h f in let m = tally-most n (xs ++ (p ∷ [])) in omega arith
 
--- what is added, and what is skipped
-
+-- one of 1 to n that is not listed yet is added
 pub wanted-adds : (n : ℕ) (xs : List ℕ) (p : ℕ) → 0 < p → p ≤ n → holds xs p ≡ false → listed n xs (p ∷ []) ≡ xs ++ (p ∷ [])
 wanted-adds n xs p z h f = let a : ltb 0 p ≡ true = lt-ltb 0 p z in let b : leb p n ≡ true = le-leb p n h in rw (a, b, f)
-
-pub outside-skips : (n : ℕ) (xs : List ℕ) (p : ℕ) → (p ≡ 0) ⊎ (n < p) → listed n xs (p ∷ []) ≡ xs
-outside-skips n xs p o = ⊎-elim
-    (λ (e : p ≡ 0). rw e)
-    (λ (l : n < p). let a : ltb 0 p ≡ true = lt-ltb 0 p (omega arith) in let b : leb p n ≡ false = lt-leb p n l in rw (a, b))
-    o
-
-pub held-skips : (n : ℕ) (xs : List ℕ) (p : ℕ) → 0 < p → p ≤ n → holds xs p ≡ true → listed n xs (p ∷ []) ≡ xs
-held-skips n xs p z h f = let a : ltb 0 p ≡ true = lt-ltb 0 p z in let b : leb p n ≡ true = le-leb p n h in rw (a, b, f)
 
 -- a loop that adds
 

@@ -1,7 +1,7 @@
 -- The lists of both kinds of order have each of 1 to n once.
 use mathlib.Core.Path.{_≡_, refl, sym, ap, _∙_}
 use mathlib.Core.Logic.{_⊎_, inl, inr, ⊎-elim}
-use mathlib.Core.Bool.{Bool, true, false, cond}
+use mathlib.Core.Bool.{true, false}
 use mathlib.Core.List.{List, [], _∷_, _++_}
 use Prim.Native.Nat.{ℕ, zero, suc, _+_, _<_, _≤_}
 use native.Mathlib.Nat.{eq-or-lt-of-le}
@@ -12,7 +12,7 @@ use borrow.Author.Tests.{eqb-true}
 use Rattle.std.proofs.shelf.Lists.{length-push, length-take-le}
 use Rattle.std.proofs.shelf.Tests.{false≢true, cases-bool}
 use Rattle.model.specs.Clauses.{Member}
-use Rattle.model.specs.Settling.{OrderMeaning, Lists}
+use Rattle.model.specs.Settling.{Lists}
 use Rattle.orders.specs.Listed.{numbers, by-number, holds, tally}
 
 pub numbers-count : (n : ℕ) → length (numbers n) ≡ n

@@ -1,6 +1,5 @@
 ghost use mathlib.Core.Path.{_≡_};
-ghost use Prim.Native.Nat.{ℕ, min};
-ghost use denote.Ref.{now};
+ghost use Prim.Native.Nat.{min};
 ghost use Rattle.orders.specs.Listed.{by-number};
 ghost use Rattle.orders.specs.Whole.{by-number-lists};
 use super::Order;

@@ -1,10 +1,10 @@
-use mathlib.Core.Path.{_≡_, refl, sym, ap, _∙_}
+use mathlib.Core.Path.{_≡_, sym, ap, _∙_}
 use mathlib.Core.List.{List, [], _∷_, _++_}
-use Prim.Native.Nat.{ℕ, zero, suc, _+_, _-_, _*_, _/_, _%_, _^_, _<_, _≤_}
+use Prim.Native.Nat.{ℕ, suc, _+_, _-_, _%_, _<_, _≤_}
 use native.Mathlib.Omega.{arith}
-use lib.ListN.{length, getD, take, drop, set, replicate}
+use lib.ListN.{length, take, drop, set, replicate}
 use borrow.Rule.Slice.PartMut.{putMid}
-use Rattle.std.proofs.shelf.Lists.{append-assoc, append-nil, length-append, length-set, take-at, drop-at, drop-all, set-at, take-all, length-drop, length-take-le}
+use Rattle.std.proofs.shelf.Lists.{append-assoc, append-nil, length-append, take-at, drop-at, drop-all, set-at, take-all, length-drop, length-take-le}
 use Rattle.model.specs.declared.Reference.{Reference}
 use Rattle.model.specs.declared.Reference.the-variants.{R, S}
 use Rattle.model.specs.declared.Step.{Step}

@@ -1,6 +1,6 @@
 // A step in a line of 28 bytes.
 ghost use mathlib.Core.Path.{_≡_};
-ghost use Prim.Native.Nat.{ℕ, _%_};
+ghost use Prim.Native.Nat.{_%_};
 ghost use lib.ListN.{length};
 ghost use Rattle.records.specs.Line.{digits, number, word, named, line, said};
 use model::Reference;

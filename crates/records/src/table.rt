@@ -1,6 +1,6 @@
 ghost use mathlib.Core.Path.{_≡_, _∙_, refl};
 ghost use mathlib.Core.List.{[]};
-ghost use Prim.Native.Nat.{ℕ, _≤_};
+ghost use Prim.Native.Nat.{_≤_};
 ghost use lib.ListN.{length};
 ghost use denote.Ref.{now, name};
 ghost use Rattle.records.specs.Kept.{keeper, most, Beyond, beyond-stays, beyond-joins, table-of, table-keeps};

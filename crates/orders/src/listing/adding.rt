@@ -1,6 +1,6 @@
 ghost use mathlib.Core.Path.{_≡_};
 ghost use mathlib.Core.List.{[], _∷_};
-ghost use Prim.Native.Nat.{ℕ, min};
+ghost use Prim.Native.Nat.{min};
 ghost use Rattle.orders.specs.Listed.{holds, listed, numbers};
 ghost use Rattle.orders.specs.Listing.{list-of};
 use super::Listing;

@@ -1,11 +1,10 @@
 use mathlib.Core.Path.{_≡_, refl, sym, ap, _∙_}
-use mathlib.Core.List.{[], _∷_, _++_}
-use Prim.Native.Nat.{_<_, _≤_, _+_}
+use Prim.Native.Nat.{_<_, _+_}
 use native.Mathlib.Omega.{arith}
 use lib.ListN.{length, take, set}
 use borrow.Author.Needs.{needs}
 use Rattle.std.proofs.shelf.Lists.{take-more-set, length-set}
-use Rattle.orders.specs.Listed.{holds, tally}
+use Rattle.orders.specs.Listed.{tally}
 use Rattle.orders.proofs.Adding.{tally-misses, tally-push, wanted-adds}
 use Rattle.orders.proofs.listing.Listing.add.Needs as need
 

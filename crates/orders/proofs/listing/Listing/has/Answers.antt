@@ -1,5 +1,4 @@
 use mathlib.Core.Path.{sym, ap, _∙_}
-use lib.ListN.{take}
 use Rattle.std.proofs.shelf.Lists.{take-all}
 use Rattle.orders.specs.Listed.{holds}
 use Rattle.orders.proofs.Adding.{holds-at, not-yet}

@@ -1,10 +1,9 @@
 use mathlib.Core.Path.{_≡_, sym, ap, _∙_}
 use mathlib.Core.Logic.{_⊎_, inl, inr}
-use Prim.Native.Nat.{_<_, _≤_, _+_, _-_, _*_}
+use Prim.Native.Nat.{_<_, _+_, _-_, _*_}
 use native.Mathlib.Omega.{arith}
-use lib.ListN.{take, drop}
 use Rattle.std.specs.declared.option.Option.the-variants.{Some}
-use Rattle.records.specs.Line.{steps-in, said}
+use Rattle.records.specs.Line.{steps-in}
 use Rattle.records.proofs.Steps.{steps-count, nth-step}
 use Rattle.records.proofs.Putting.{step-outside, step-here}
 use Rattle.records.proofs.lines.LinesRecord.look.Needs as need
