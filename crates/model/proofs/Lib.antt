@@ -10,3 +10,4 @@ pub mod Same
 pub mod Places
 pub mod Total
 pub mod Searched
+pub mod Noted

@@ -46,14 +46,14 @@ pub tally-push : (n : ℕ) (xs : List ℕ) (p : ℕ) → 0 < p → p ≤ n → h
 tally-push zero xs p z h f = absurd (omega arith)
 tally-push (suc n) xs p z h f = ⊎-elim
     (λ (e : p ≡ suc n).
-      let g : holds xs (suc n) ≡ false = rw e at f in
-      let q : eqb p (suc n) ≡ true = eq-eqb p (suc n) e in
-      let i = tally-same n xs p (omega arith) in
-      rw (holds-push xs p (suc n), g, q, i) (omega arith))
+    let g : holds xs (suc n) ≡ false = rw e at f in
+    let q : eqb p (suc n) ≡ true = eq-eqb p (suc n) e in
+    let i = tally-same n xs p (omega arith) in
+    rw (holds-push xs p (suc n), g, q, i) (omega arith))
     (λ (l : p < suc n).
-      let q : eqb p (suc n) ≡ false = ne-eqb p (suc n) (λ e. omega arith) in
-      let i = tally-push n xs p z (omega arith) f in
-      rw (holds-push xs p (suc n), q, i) (elim (holds xs (suc n)) as (λ b. tally n xs + 1 + cond (cond b true false) 1 0 ≡ tally n xs + cond b 1 0 + 1) [ true ↦ omega arith | false ↦ omega arith ]))
+    let q : eqb p (suc n) ≡ false = ne-eqb p (suc n) (λ e. omega arith) in
+    let i = tally-push n xs p z (omega arith) f in
+    rw (holds-push xs p (suc n), q, i) (elim (holds xs (suc n)) as (λ b. tally n xs + 1 + cond (cond b true false) 1 0 ≡ tally n xs + cond b 1 0 + 1) [ true ↦ omega arith | false ↦ omega arith ]))
     (eq-or-lt-of-le h)
 
 tally-most : (n : ℕ) (xs : List ℕ) → tally n xs ≤ n

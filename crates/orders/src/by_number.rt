@@ -16,7 +16,9 @@ impl ByNumber {
     pub fn new(size: u32) -> Self
         ensures { λ r. ⌜ by-number (r .n) ≡ by-number (min size 200) ⌝ }
     {
-        ByNumber { n: size.min(200) as u8 }
+        ByNumber {
+            n: size.min(200) as u8,
+        }
     }
 }
 

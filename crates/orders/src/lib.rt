@@ -33,3 +33,6 @@ fn is_unset(settings: &[u8], variable: u8) -> bool
     }
     settings[k - 1] == 2
 }
+
+#[cfg(test)]
+mod tests;

@@ -78,7 +78,7 @@ unfolding front
 parts-laid w u d hw hu hd =
     let l : length (front w u ++ d) ≡ 27 = length-append (front w u) d ∙ omega (arith, front-count w u hw hu) in
     let e : putMid 24 3 (putMid 12 11 (w ++ replicate 17 32) u) d ≡ (front w u ++ d) ++ (32 ∷ []) =
-      ap (λ x. putMid 24 3 x d) (references-laid w u hw) ∙ (put-after (front w u) (replicate 4 32) d 24 3 (front-count w u hw hu) ∙ simp append-assoc) in
+    ap (λ x. putMid 24 3 x d) (references-laid w u hw) ∙ (put-after (front w u) (replicate 4 32) d 24 3 (front-count w u hw hu) ∙ simp append-assoc) in
     ap (λ x. set x 27 10) e ∙ (set-at (front w u ++ d) 32 [] 10 27 l ∙ simp append-assoc)
 
 -- what a line says is read off its parts

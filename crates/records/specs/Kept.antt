@@ -57,5 +57,5 @@ pub beyond-joins : {A : Type 0} {i j k : ℕ} {xs ys zs : List A} → Beyond i x
 beyond-joins {i = i} {j = j} {k = k} {xs = xs} {ys = ys} {zs = zs} p q = record {
   grows = omega (arith, p .grows, q .grows);
   long = q .long ∙ p .long;
-  rest = q .rest ∙ drop-further j k ys xs (q .grows) (p .rest)
+  rest = q .rest ∙ drop-further j k ys xs (q .grows) (p .rest);
 }

@@ -11,7 +11,11 @@ impl Listing {
         ensures capped { λ r. ⌜ r .size ≡ min size 200 ⌝ }
         ensures empty { λ r. ⌜ list-of r ≡ [] ⌝ }
     {
-        Listing { size: size.min(200) as u8, list: [0; 200], len: 0 }
+        Listing {
+            size: size.min(200) as u8,
+            list: [0; 200],
+            len: 0,
+        }
     }
 
     pub fn size(&self) -> u8

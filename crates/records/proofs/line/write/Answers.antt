@@ -26,5 +26,5 @@ returns c =
     let p : Parts s w u d = record { left-part = c .write-reference .ensures .written; right-part = c .write-reference-2 .ensures .written; variable-part = c .write-number .ensures } in
     record {
       written = line-laid s w u d p;
-      read-back = line-said s w u d p (c .write-reference .ensures .read-back) (c .write-reference-2 .ensures .read-back) (omega arith)
+      read-back = line-said s w u d p (c .write-reference .ensures .read-back) (c .write-reference-2 .ensures .read-back) (omega arith);
     }

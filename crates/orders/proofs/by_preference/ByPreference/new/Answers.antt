@@ -15,4 +15,4 @@ returns c =
     let p = c .prefer .last .self in
     let q = c .complete .last .self in
     preferred (min (c .args .size) 200) (l .size) (p .size) (q .size) (list-of l) (list-of p) (list-of q) (c .args .preferences .now)
-      (c .new-listing .ensures .capped) (c .new-listing .ensures .empty) (c .prefer .ensures .sized) (c .prefer .ensures .added) (c .complete .ensures .sized) (c .complete .ensures .added)
+    (c .new-listing .ensures .capped) (c .new-listing .ensures .empty) (c .prefer .ensures .sized) (c .prefer .ensures .added) (c .complete .ensures .sized) (c .complete .ensures .added)

@@ -25,7 +25,7 @@ ghost-self c =
     let h : t .len < length xs = omega (arith, m, t .distinct, t .small) in
     let e = take-more-set xs (t .len) p h in
     let d : tally (t .size) (take (t .len + 1) (set xs (t .len) p)) ≡ t .len + 1 =
-      ap (tally (t .size)) e ∙ (tally-push (t .size) (take (t .len) xs) p (omega arith) (omega arith) f ∙ ap (λ k. k + 1) (t .distinct)) in
+    ap (tally (t .size)) e ∙ (tally-push (t .size) (take (t .len) xs) p (omega arith) (omega arith) f ∙ ap (λ k. k + 1) (t .distinct)) in
     let l = length-set xs (t .len) p in
     (t .small, (omega arith, (d, tt)))
 
