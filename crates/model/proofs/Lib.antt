@@ -18,3 +18,4 @@ pub mod Merging
 pub mod Calls
 pub mod Trials
 pub mod TextExamples
+pub mod Noted

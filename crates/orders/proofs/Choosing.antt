@@ -1,4 +1,4 @@
-use mathlib.Core.Path.{_≡_, refl, sym, ap, _∙_}
+use mathlib.Core.Path.{_≡_, sym, _∙_}
 use mathlib.Core.Logic.{_≢_, _⊎_, ⊎-elim}
 use mathlib.Core.Bool.{true, false}
 use mathlib.Core.List.{List, [], _∷_, _++_}
@@ -55,3 +55,7 @@ number-at (suc n) i h = ⊎-elim
     (λ (e : suc i ≡ suc n). let f : length (numbers n) ≡ i = numbers-count n ∙ omega arith in getD-push (numbers n) (suc n) 0 i f ∙ omega arith)
     (λ (l : suc i < suc n). let f : i < length (numbers n) = rw numbers-count (omega arith) in getD-append-left (numbers n) (suc n ∷ []) 0 i f ∙ number-at n i (omega arith))
     (eq-or-lt-of-le h)
+
+pub chosen-unset : {σ ks : List ℕ} {v : ℕ} → Chosen σ ks v → entry σ v ≡ 2
+chosen-unset (this e) = e
+chosen-unset (next n c) = chosen-unset c

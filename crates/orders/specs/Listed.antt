@@ -29,3 +29,8 @@ listed n xs (k ∷ ks) = listed n (cond (wanted n xs k) (xs ++ (k ∷ [])) xs) k
 -- the preferences in turn, without repeats and numbers outside 1 to n, and then the others by number
 abbrev pub by-preference : ℕ → List ℕ → OrderMeaning
 by-preference n ps = record { size = n; list = listed n (listed n [] ps) (numbers n) }
+
+-- how many of 1 to n are in the list
+abbrev pub tally : ℕ → List ℕ → ℕ
+tally zero xs = 0
+tally (suc n) xs = tally n xs + cond (holds xs (suc n)) 1 0

@@ -1,6 +1,5 @@
 ghost use mathlib.Core.Path.{_≡_};
-ghost use Prim.Native.Nat.{ℕ, min};
-ghost use denote.Ref.{now};
+ghost use Prim.Native.Nat.{min};
 ghost use Rattle.orders.specs.Listed.{by-number};
 ghost use Rattle.orders.specs.Whole.{by-number-lists};
 use super::Order;
@@ -17,7 +16,9 @@ impl ByNumber {
     pub fn new(size: u32) -> Self
         ensures { λ r. ⌜ by-number (r .n) ≡ by-number (min size 200) ⌝ }
     {
-        ByNumber { n: size.min(200) as u8 }
+        ByNumber {
+            n: size.min(200) as u8,
+        }
     }
 }
 

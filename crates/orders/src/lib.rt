@@ -6,6 +6,8 @@ ghost use Rattle.model.specs.Search.{entry};
 ghost use Rattle.model.specs.Settling.{OrderMeaning, Lists, Chooses};
 
 pub mod by_number;
+pub mod by_preference;
+mod listing;
 
 // An order means a size n and a list of the variables 1 to n.
 pub trait Order {
@@ -31,3 +33,6 @@ fn is_unset(settings: &[u8], variable: u8) -> bool
     }
     settings[k - 1] == 2
 }
+
+#[cfg(test)]
+mod tests;

@@ -1,10 +1,10 @@
 use mathlib.Core.Path.{_≡_, refl, sym, ap, _∙_}
 use mathlib.Core.List.{List, [], _∷_, _++_}
-use Prim.Native.Nat.{ℕ, zero, suc, _+_, _-_, _*_, _/_, _%_, _^_, _<_, _≤_}
+use Prim.Native.Nat.{ℕ, zero, suc, _+_, _-_, _*_, _/_, _%_, _^_, _<_}
 use native.Mathlib.Nat.{pow-suc, add-mul-mod-self-left}
 use native.Mathlib.Omega.{arith}
 use lib.ListN.{length, getD, take, drop, set}
-use Rattle.std.proofs.shelf.Lists.{append-assoc, drop-all, drop-set, length-push, take-more, take-all}
+use Rattle.std.proofs.shelf.Lists.{append-assoc, drop-set, length-push, take-more}
 use Rattle.records.specs.Line.{digits, number}
 
 pub digits-push : (k n : ℕ) → digits (k + 1) n ≡ digits k (n / 10) ++ ((48 + n % 10) ∷ [])

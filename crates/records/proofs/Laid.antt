@@ -1,10 +1,10 @@
 use mathlib.Core.Path.{_≡_, refl, sym, ap, _∙_}
 use mathlib.Core.List.{List, [], _∷_, _++_}
-use Prim.Native.Nat.{ℕ, zero, suc, _+_, _-_, _*_, _/_, _%_, _^_, _<_, _≤_}
+use Prim.Native.Nat.{ℕ, suc, _+_, _-_, _%_, _<_, _≤_}
 use native.Mathlib.Omega.{arith}
-use lib.ListN.{length, getD, take, drop, set, replicate}
+use lib.ListN.{length, take, drop, set, replicate}
 use borrow.Rule.Slice.PartMut.{putMid}
-use Rattle.std.proofs.shelf.Lists.{append-assoc, append-nil, length-append, length-set, take-at, drop-at, drop-all, set-at, take-all, length-drop, length-take-le}
+use Rattle.std.proofs.shelf.Lists.{append-assoc, append-nil, length-append, take-at, drop-at, drop-all, set-at, take-all, length-drop, length-take-le}
 use Rattle.model.specs.declared.Reference.{Reference}
 use Rattle.model.specs.declared.Reference.the-variants.{R, S}
 use Rattle.model.specs.declared.Step.{Step}
@@ -61,14 +61,19 @@ references-laid w u hw =
     ap (λ x. putMid 12 11 x u) (sym (append-assoc w (32 ∷ []) (replicate 16 32)))
     ∙ (put-after (w ++ (32 ∷ [])) (replicate 16 32) u 12 11 (blank-after w hw) ∙ simp append-assoc)
 
-pub room-after : (w u : List ℕ) → length w ≡ 11 → length u ≡ 11 → 27 ≤ length (putMid 12 11 (w ++ replicate 17 32) u)
-room-after w u hw hu =
-    let f = front-count w u hw hu in
-    rw (references-laid w u hw, length-append (front w u) (replicate 4 32)) (omega arith)
+pub room-after : (w q u : List ℕ) → length w ≡ 11 → length q ≡ 17 → length u ≡ 11 → 27 ≤ length (putMid 12 11 (w ++ q) u)
+room-after w q u hw hq hu =
+    let l : length (w ++ q) ≡ 28 = length-append w q ∙ omega arith in
+    let a : length (take 12 (w ++ q)) ≡ 12 = length-take-le 12 (w ++ q) (omega arith) in
+    let b = length-append (take 12 (w ++ q)) (u ++ drop 11 (drop 12 (w ++ q))) in
+    let d = length-append u (drop 11 (drop 12 (w ++ q))) in
+    let e = length-drop 11 (drop 12 (w ++ q)) in
+    let f = length-drop 12 (w ++ q) in
+    omega arith
 
 digits-laid : (w u : List ℕ) → length w ≡ 11 → length u ≡ 11 → length (take 3 (drop 24 (putMid 12 11 (w ++ replicate 17 32) u))) ≡ 3
 digits-laid w u hw hu =
-    let r = room-after w u hw hu in
+    let r = room-after w (replicate 17 32) u hw refl hu in
     let l = length-drop 24 (putMid 12 11 (w ++ replicate 17 32) u) in
     length-take-le 3 (drop 24 (putMid 12 11 (w ++ replicate 17 32) u)) (omega arith)
 
@@ -78,7 +83,7 @@ unfolding front
 parts-laid w u d hw hu hd =
     let l : length (front w u ++ d) ≡ 27 = length-append (front w u) d ∙ omega (arith, front-count w u hw hu) in
     let e : putMid 24 3 (putMid 12 11 (w ++ replicate 17 32) u) d ≡ (front w u ++ d) ++ (32 ∷ []) =
-      ap (λ x. putMid 24 3 x d) (references-laid w u hw) ∙ (put-after (front w u) (replicate 4 32) d 24 3 (front-count w u hw hu) ∙ simp append-assoc) in
+    ap (λ x. putMid 24 3 x d) (references-laid w u hw) ∙ (put-after (front w u) (replicate 4 32) d 24 3 (front-count w u hw hu) ∙ simp append-assoc) in
     ap (λ x. set x 27 10) e ∙ (set-at (front w u ++ d) 32 [] 10 27 l ∙ simp append-assoc)
 
 -- what a line says is read off its parts

@@ -1,20 +1,17 @@
-use mathlib.Core.Path.{_≡_, refl, sym, ap, _∙_}
+use mathlib.Core.Path.{_≡_, refl, sym}
 use mathlib.Core.Logic.{_⊎_, ⊎-elim}
-use mathlib.Core.Bool.{Bool, true, false}
+use mathlib.Core.Bool.{false}
 use mathlib.Core.List.{List, [], _∷_, _++_}
-use Prim.Native.Nat.{ℕ, zero, suc, _+_, _-_, _<_, _≤_}
+use Prim.Native.Nat.{ℕ, zero, suc, _+_, _-_, _<_}
 use native.Mathlib.Omega.{arith}
 use lib.Dec.{eqb}
 use lib.ListN.{length, take}
-use borrow.Author.Tests.{eq-eqb, ne-eqb}
+use borrow.Author.Tests.{ne-eqb}
 use Rattle.std.specs.shelf.Maps.{nth}
-use Rattle.std.specs.declared.option.Option.{Option}
 use Rattle.std.specs.declared.option.Option.the-variants.{Some, None}
-use Rattle.std.specs.declared.result.Result.the-variants.{Ok, Err}
+use Rattle.std.specs.declared.result.Result.the-variants.{Ok}
 use Rattle.std.proofs.shelf.Maps.{nth-past}
 use Rattle.model.specs.declared.Step.{Step}
-use Rattle.model.specs.declared.Decline.{Decline}
-use Rattle.model.specs.declared.Decline.the-variants.{RecordFull}
 use Rattle.model.specs.Settling.{Puts}
 use Rattle.records.specs.Kept.{keeper, step-at}
 
@@ -29,9 +26,6 @@ put-into xs ys k k′ s h e f =
     let t = take-one k s h in
     let z : eqb k 0 ≡ false = ne-eqb k 0 (λ q. omega arith) in
     (simp z, refl, simp (e, f, t))
-
-pub put-full : (xs : List Step) (k : ℕ) (s : Step) → k ≡ 0 → Puts (keeper xs k) s (keeper xs k) (Err RecordFull)
-put-full xs k s e = (rw e, refl)
 
 -- look, where no step has the number, and where one has it
 pub step-outside : (ss : List Step) (k n : ℕ) → length ss ≡ n → (k ≡ 0) ⊎ (n < k) → None ≡ step-at ss k

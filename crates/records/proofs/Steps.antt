@@ -5,12 +5,11 @@ use Prim.Native.Nat.{ℕ, zero, suc, _+_, _-_, _*_, _<_, _≤_}
 use native.Mathlib.Nat.{eq-or-lt-of-le}
 use native.Mathlib.Omega.{arith}
 use lib.ListN.{length, take, drop, getD, set}
-use Rattle.std.specs.declared.option.Option.{Option}
-use Rattle.std.specs.declared.option.Option.the-variants.{Some, None}
-use Rattle.std.specs.shelf.Lists.{joined}
+use Rattle.std.specs.declared.option.Option.the-variants.{Some}
 use Rattle.std.specs.shelf.Maps.{nth}
-use Rattle.std.proofs.shelf.Lists.{length-push, length-take-le, take-at, drop-at, take-all, drop-take, take-take, append-assoc, take-more, take-more-set, joined-more}
+use Rattle.std.proofs.shelf.Lists.{length-push, length-take-le, take-at, drop-at, take-all, drop-take, take-take, append-assoc, take-more, take-more-set, take-append-drop, joined-more}
 use Rattle.model.specs.declared.Step.{Step}
+use Rattle.records.specs.Kept.{Beyond}
 use Rattle.records.specs.Line.{line, lines, said, steps-in}
 
 pub steps-count : (n : ℕ) (bs : List ℕ) → length (steps-in n bs) ≡ n
@@ -97,3 +96,9 @@ exact-more n bs es text s lt le e st tl x =
     let w : take 28 text ≡ line s = take-all 28 text long ∙ tl in
     rw m (e ∙ (ap (λ y. y ++ take 28 text) x ∙ (ap (λ y. lines (steps-in n es) ++ y) w
     ∙ (joined-more line [] (steps-in n es) s ∙ ap lines (sym (stored n bs es text s lt le e st))))))
+
+-- what the lent bytes hold after a record that was made over them: the lines of its steps, and beyond these what was there
+pub lent-bytes : (n i : ℕ) (es bs : List ℕ) (ss : List Step) → Exact n bs → Beyond i es (n * 28) bs → steps-in n bs ≡ ss → bs ≡ lines ss ++ drop (length ss * 28) es
+lent-bytes n i es bs ss x b e =
+    let l : length ss ≡ n = ap length (sym e) ∙ steps-count n bs in
+    rw l (sym (take-append-drop (n * 28) bs) ∙ (ap (λ xs. xs ++ drop (n * 28) bs) (x ∙ ap lines e) ∙ ap (λ xs. lines ss ++ xs) (b .rest)))

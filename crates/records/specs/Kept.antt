@@ -1,7 +1,7 @@
 -- What the records that keep mean, what they answer to a look, and what becomes of the memory lent to them.
 use mathlib.Core.Path.{_≡_, refl, sym, ap, _∙_}
-use mathlib.Core.Bool.{Bool, true, false}
-use mathlib.Core.List.{List, [], _∷_}
+use mathlib.Core.Bool.{true, false}
+use mathlib.Core.List.{List, []}
 use Prim.Native.Nat.{ℕ, zero, suc, _+_, _-_, _≤_, min}
 use native.Mathlib.Omega.{arith}
 use lib.ListN.{length, take, drop}
@@ -57,5 +57,5 @@ pub beyond-joins : {A : Type 0} {i j k : ℕ} {xs ys zs : List A} → Beyond i x
 beyond-joins {i = i} {j = j} {k = k} {xs = xs} {ys = ys} {zs = zs} p q = record {
   grows = omega (arith, p .grows, q .grows);
   long = q .long ∙ p .long;
-  rest = q .rest ∙ drop-further j k ys xs (q .grows) (p .rest)
+  rest = q .rest ∙ drop-further j k ys xs (q .grows) (p .rest);
 }

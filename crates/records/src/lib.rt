@@ -46,3 +46,6 @@ pub trait Record {
     fn look(&self, k: usize) -> Option<Step>
         ensures { λ r. ⌜ r ≡ step-at (meaning (now (self .entry)) .steps) k ⌝ };
 }
+
+#[cfg(test)]
+mod tests;

@@ -1,6 +1,6 @@
 // A step in a line of 28 bytes.
 ghost use mathlib.Core.Path.{_≡_};
-ghost use Prim.Native.Nat.{ℕ, _%_};
+ghost use Prim.Native.Nat.{_%_};
 ghost use lib.ListN.{length};
 ghost use Rattle.records.specs.Line.{digits, number, word, named, line, said};
 use model::Reference;
@@ -52,7 +52,8 @@ fn read_number(bytes: &[u8]) -> u32
 {
     let mut n: u32 = 0;
     for b in bytes {
-        n = n.wrapping_mul(10).wrapping_add(u32::from(b.saturating_sub(b'0')));
+        n = n.wrapping_mul(10)
+            .wrapping_add(u32::from(b.saturating_sub(b'0')));
     }
     n
 }
@@ -62,7 +63,11 @@ fn read_reference(bytes: &[u8]) -> Reference
     ensures { λ r. ⌜ r ≡ named (now (bytes .entry)) ⌝ }
 {
     let n = read_number(&bytes[1..11]);
-    if bytes[0] == b'R' { Reference::R(n) } else { Reference::S(n) }
+    if bytes[0] == b'R' {
+        Reference::R(n)
+    } else {
+        Reference::S(n)
+    }
 }
 
 pub fn read(bytes: &[u8]) -> Step
@@ -70,5 +75,9 @@ pub fn read(bytes: &[u8]) -> Step
     ensures { λ r. ⌜ r ≡ said (now (bytes .entry)) ⌝ }
 {
     let variable = read_number(&bytes[24..27]);
-    Step { left: read_reference(&bytes[0..11]), right: read_reference(&bytes[12..23]), variable: (variable % 256) as u8 }
+    Step {
+        left: read_reference(&bytes[0..11]),
+        right: read_reference(&bytes[12..23]),
+        variable: (variable % 256) as u8,
+    }
 }

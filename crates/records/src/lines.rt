@@ -1,16 +1,16 @@
 ghost use mathlib.Core.Path.{_≡_, _∙_, refl};
 ghost use mathlib.Core.List.{[]};
-ghost use Prim.Native.Nat.{ℕ, _*_, _/_, _≤_};
+ghost use Prim.Native.Nat.{_*_, _/_, _≤_};
 ghost use lib.ListN.{length, take};
 ghost use denote.Ref.{now, name};
 ghost use Rattle.records.specs.Kept.{keeper, most, Beyond, beyond-stays, beyond-joins};
 ghost use Rattle.records.specs.Line.{lines, steps-in};
 ghost use Rattle.records.specs.Lines.{lines-of, lines-keeps};
-use model::Decline;
-use model::Step;
 use super::MOST;
 use super::Record;
 use super::line;
+use model::Decline;
+use model::Step;
 
 // Holds its steps in given bytes, in lines of 28 bytes, as many as the bytes allow whole and 65,535 at most.
 #[derive(Drop)]

@@ -1,8 +1,8 @@
 ghost use Rattle.std.proofs.shelf.Tests.{false≢true};
 ghost use Rattle.records.specs.Kept.{nothing-kept};
+use super::Record;
 use model::Decline;
 use model::Step;
-use super::Record;
 
 // Keeps nothing and has no end.
 #[derive(Drop)]

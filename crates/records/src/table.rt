@@ -1,13 +1,13 @@
 ghost use mathlib.Core.Path.{_≡_, _∙_, refl};
 ghost use mathlib.Core.List.{[]};
-ghost use Prim.Native.Nat.{ℕ, _≤_};
+ghost use Prim.Native.Nat.{_≤_};
 ghost use lib.ListN.{length};
 ghost use denote.Ref.{now, name};
 ghost use Rattle.records.specs.Kept.{keeper, most, Beyond, beyond-stays, beyond-joins, table-of, table-keeps};
-use model::Decline;
-use model::Step;
 use super::MOST;
 use super::Record;
+use model::Decline;
+use model::Step;
 
 // Holds its steps in given places, the first 65,535 at most.
 #[derive(Drop)]

@@ -1,11 +1,8 @@
-use mathlib.Core.Path.{_≡_, sym, ap, _∙_}
-use Prim.Native.Nat.{_%_}
-use mathlib.Core.Bool.{cond}
-use lib.ListN.{getD, take, drop}
+use mathlib.Core.Path.{sym, ap, _∙_}
 use borrow.Author.Tests.{eq-eqb, ne-eqb}
 use Rattle.std.proofs.shelf.Tests.{cond-true, cond-false}
 use Rattle.model.specs.declared.Reference.the-variants.{R, S}
-use Rattle.records.specs.Line.{named, number}
+use Rattle.records.specs.Line.{named}
 use Rattle.records.proofs.line.read_reference.Needs as need
 
 pub returns-then-bytes-eq82 : need.returns-then-bytes-eq82

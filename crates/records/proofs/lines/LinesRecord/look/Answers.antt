@@ -1,6 +1,6 @@
 use mathlib.Core.Path.{_≡_, sym, ap, _∙_}
 use mathlib.Core.Logic.{_⊎_, inl, inr}
-use Prim.Native.Nat.{_<_, _≤_, _+_, _-_, _*_}
+use Prim.Native.Nat.{_<_, _+_, _-_, _*_}
 use native.Mathlib.Omega.{arith}
 use lib.ListN.{take, drop}
 use Rattle.std.specs.declared.option.Option.the-variants.{Some}
@@ -21,5 +21,5 @@ returns c =
     let k = c .args .k in
     let i : k - 1 < t .used = omega arith in
     let e : ((k - 1) * 28 + 28) - (k - 1) * 28 ≡ 28 = omega arith in
-    let r = rw e at (c .read .ensures) in
+    let r : c .read .result ≡ said (take 28 (drop ((k - 1) * 28) (t .bytes .now))) = c .read .ensures ∙ ap (λ m. said (take m (drop ((k - 1) * 28) (t .bytes .now)))) e in
     step-here (steps-in (t .used) (t .bytes .now)) k (c .read .result) (omega arith) (nth-step (t .used) (k - 1) (t .bytes .now) i ∙ ap Some (sym r))

@@ -1,8 +1,8 @@
-use mathlib.Core.Path.{_≡_, refl, sym, ap, _∙_}
+use mathlib.Core.Path.{_≡_, _∙_}
 use mathlib.Core.List.{[], _∷_, _++_}
 use Prim.Native.Nat.{_<_, _≤_, _+_, _-_, _*_, _/_}
 use native.Mathlib.Omega.{arith}
-use lib.ListN.{length, getD, take, drop, set}
+use lib.ListN.{length, getD, take, set}
 use borrow.Author.Needs.{needs}
 use Rattle.std.proofs.shelf.Lists.{length-set, take-set-le, drop-set-lt}
 use Rattle.records.specs.Kept.{most}
@@ -45,7 +45,7 @@ ghost-self-2 c =
     let le : t .used * 28 ≤ length (t .bytes .now) = omega (arith, t .fits) in
     let e : take (t .used * 28 + 28) bs ≡ take (t .used * 28) (t .bytes .now) ++ take 28 text = let i28 : c .loop-i .i ≡ 28 = omega arith in simp i28 at (v .3) in
     let x : Exact (c .loop-i .self .used + 1) bs =
-      simp (v .0) (exact-more (t .used) bs (t .bytes .now) text (c .args .step) tl le e (c .write-text .ensures .read-back) (c .write-text .ensures .written) (t .exact)) in
+    simp (v .0) (exact-more (t .used) bs (t .bytes .now) text (c .args .step) tl le e (c .write-text .ensures .read-back) (c .write-text .ensures .written) (t .exact)) in
     (omega (arith, v .0, v .2, t .fits), (x, tt))
 
 pub returns : need.returns
@@ -66,5 +66,5 @@ returns c =
     let room : most (length bs / 28) - m ≡ most (length es / 28) - n - 1 = simp (v .0, v .2) (omega arith) in
     record {
       tied = (v .1, record { grows = omega (arith, v .0); long = v .2; rest = rw end (v .4) });
-      puts = put-into (steps-in n es) (steps-in m bs) (most (length es / 28) - n) (most (length bs / 28) - m) s (omega (arith, t .fits)) held room
+      puts = put-into (steps-in n es) (steps-in m bs) (most (length es / 28) - n) (most (length bs / 28) - m) s (omega (arith, t .fits)) held room;
     }

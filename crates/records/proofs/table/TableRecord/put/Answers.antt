@@ -17,6 +17,6 @@ returns c =
     let lt : u < u + 1 = omega arith in
     let room : most (length (set xs u s)) - (u + 1) ≡ most (length xs) - u - 1 = simp length-set (omega arith) in
     record {
+      puts = put-into (take u xs) (take (u + 1) (set xs u s)) (most (length xs) - u) (most (length (set xs u s)) - (u + 1)) s (omega arith) (take-more-set xs u s h) room;
       tied = (refl, record { grows = omega arith; long = length-set xs u s; rest = drop-set-lt (u + 1) xs u s lt });
-      puts = put-into (take u xs) (take (u + 1) (set xs u s)) (most (length xs) - u) (most (length (set xs u s)) - (u + 1)) s (omega arith) (take-more-set xs u s h) room
     }
