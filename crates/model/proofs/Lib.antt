@@ -12,6 +12,7 @@ pub mod Members
 pub mod Total
 pub mod Searched
 pub mod Ways
+pub mod Worths
 pub mod Signs
 pub mod Numbered
 pub mod Merging

@@ -12,25 +12,9 @@ use borrow.Author.Tests.{eq-eqb, eqb-true, ltb-true, leb-true, clash}
 use Rattle.std.proofs.shelf.Lists.{length-push}
 use Rattle.model.specs.Clauses.{Clause, variable, Member, Each, _∈_, Within, Over, same, has}
 use Rattle.model.specs.Arguments.{SameLiterals}
+use Rattle.model.proofs.Signs.{same-refl, same-true, same-false, names-within}
 use Rattle.model.specs.Machine.{every, names, merged}
-use Rattle.model.proofs.Total.{in-left, in-right, in-either}
-
-pub same-refl : (t : ℤ) → same t t ≡ true
-same-refl (pos k) = eq-eqb k k refl
-same-refl (negsuc k) = eq-eqb k k refl
-
-pub same-true : (t u : ℤ) → same t u ≡ true → t ≡ u
-same-true (pos j) (pos k) h = ap pos (eqb-true j k h)
-same-true (pos j) (negsuc k) h = absurd (clash h)
-same-true (negsuc j) (pos k) h = absurd (clash h)
-same-true (negsuc j) (negsuc k) h = ap negsuc (eqb-true j k h)
-
-pub same-false : (t u : ℤ) → (t ≡ u → ⊥) → same t u ≡ false
-same-false t u h = look (same t u) refl
-  where
-    look : (b : Bool) → same t u ≡ b → same t u ≡ false
-    look true e = absurd (h (same-true t u e))
-    look false e = e
+use Rattle.model.proofs.Members.{in-left, in-right, in-either}
 
 -- both of two tests
 pub both : (b c : Bool) → cond b c false ≡ true → (b ≡ true) × (c ≡ true)
@@ -63,11 +47,6 @@ module _ {A : Type 0} (p : A → Bool) where
   every-member x [] h m = absurd m
   every-member x (y ∷ ys) h (inl e) = ap p e ∙ both (p y) (every p ys) h .0
   every-member x (y ∷ ys) h (inr m) = every-member x ys (both (p y) (every p ys) h .1) m
-
-pub names-within : (n : ℕ) (t : ℤ) → names n t ≡ true → Within n t
-names-within n t h =
-    let w = both (ltb 0 (variable t)) (leb (variable t) n) h in
-    (ltb-true 0 (variable t) (w .0), leb-true (variable t) n (w .1))
 
 pub clauses-over : (n : ℕ) (F : List Clause) → Each (λ C. every (names n) C ≡ true) F → Over n F
 clauses-over n [] e = tt

@@ -15,9 +15,9 @@ use Rattle.model.specs.declared.Answer.{Answer}
 use Rattle.model.specs.declared.Answer.the-variants.{Fits, Cannot}
 use Rattle.model.specs.declared.Decline.{Decline}
 use Rattle.model.specs.declared.Decline.the-variants.{NotStarted, OtherSize, FewPlaces, RecordUsed, RecordFull}
-use Rattle.model.specs.Clauses.{Member, Each}
+use Rattle.model.specs.Clauses.{Member, Each, Valuation, Model}
 use Rattle.model.specs.Search.{Setting, entry, Chosen, Branch, Outcome, fits, fails}
-use Rattle.model.specs.Arguments.{unset}
+use Rattle.model.specs.Arguments.{unset, reads}
 use Rattle.model.specs.Machine.{Machine, first, Does, every}
 
 -- orders
@@ -113,3 +113,9 @@ Settled None m o rec sheet r rec′ sheet′ = (ss : List Step) × (out : Outcom
 -- either it is refused, and nothing changes; or the search makes its steps and ends, and answer, record and sheet are as its end says
 abbrev pub Settles : Machine → OrderMeaning → RecordMeaning → List ℕ → List ℕ → Result Answer Decline → RecordMeaning → List ℕ → Type 0
 Settles m o rec sheet memory r rec′ sheet′ = Settled (settle-refusal m o rec (length sheet) memory) m o rec sheet r rec′ sheet′
+
+-- What an answer is worth: after "fits" the first n bytes of the sheet are a model of the clauses, after "cannot" there is none.
+abbrev pub Worth : Machine → Result Answer Decline → List ℕ → Type 0
+Worth m (Ok Fits) sheet = Model (reads (take (m .variables) sheet)) (m .clauses)
+Worth m (Ok (Cannot ref)) sheet = (v : Valuation) → Model v (m .clauses) → ⊥
+Worth m (Err d) sheet = Unit {0}

@@ -3,7 +3,7 @@ ghost use mathlib.Core.Path.{_≡_};
 ghost use mathlib.Core.List.{List, [], _∷_};
 ghost use Prim.Native.Nat.{ℕ, _<_, _≤_};
 ghost use lib.ListN.{length};
-ghost use Rattle.model.specs.Settling.{settle-refusal, written, Settled, Settles};
+ghost use Rattle.model.specs.Settling.{settle-refusal, written, Settled, Settles, Worth};
 ghost use Rattle.std.specs.declared.option.Option.the-variants.{None};
 ghost use Rattle.station.specs.Views.{machine};
 ghost use Rattle.search.specs.States.{Refuses};
@@ -74,6 +74,7 @@ fn search<O: Order, R: Record>(file: &StationFile, order: &O, record: &mut R, sh
 pub fn settle<O: Order, R: Record>(file: &StationFile, order: &O, record: &mut R, sheet: &mut [u8], trail: &mut [Mark], frames: &mut [Frame]) -> Result<Answer, Decline>
     ensures tied { λ _. ⌜ R·Record .over (now («record» .entry)) (now («record» .exit)) ⌝ }
     ensures settles { λ r. ⌜ Settles (machine (now (file .entry))) (O·Order .meaning (now (order .entry))) (R·Record .meaning (now («record» .entry))) (now (sheet .entry)) (length (now (trail .entry)) ∷ length (now (frames .entry)) ∷ []) r (R·Record .meaning (now («record» .exit))) (now (sheet .exit)) ⌝ }
+    ensures worth { λ r. ⌜ Worth (machine (now (file .entry))) r (now (sheet .exit)) ⌝ }
 {
     refusal(file, order, record, sheet.len(), trail.len(), frames.len())?;
     search(file, order, record, sheet, trail, frames)

@@ -9,7 +9,7 @@ use borrow.Author.Needs.{needs}
 use Rattle.std.proofs.shelf.Lists.{drop-more, drop-all}
 use Rattle.std.proofs.shelf.Signed.{toZ-ofZ}
 use Rattle.model.specs.Clauses.{has, same}
-use Rattle.model.proofs.Merging.{same-refl, same-false}
+use Rattle.model.proofs.Signs.{same-refl, same-false}
 use Rattle.station.proofs.entering.held.Needs as need
 
 pub returns-then-u-t : need.returns-then-u-t
