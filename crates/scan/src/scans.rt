@@ -16,7 +16,9 @@ fn add(so_far: Scan, k: u32, r: Test) -> Scan
         Scan::Conflict(_) => so_far,
         Scan::Forced(_, _) => match r {
             Test::AllFalse => Scan::Conflict(k),
-            _ => so_far,
+            Test::Unit(_) => so_far,
+            Test::SomeTrue => so_far,
+            Test::Open => so_far,
         },
         Scan::Satisfied => match r {
             Test::AllFalse => Scan::Conflict(k),

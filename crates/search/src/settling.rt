@@ -2,9 +2,14 @@
 ghost use mathlib.Core.Path.{_≡_};
 ghost use mathlib.Core.List.{List, [], _∷_};
 ghost use Prim.Native.Nat.{ℕ, _<_, _≤_};
+ghost use mathlib.Core.Bool.{false};
+ghost use lib.IntN.{ℤ, pos};
 ghost use lib.ListN.{length};
 ghost use Rattle.model.specs.Settling.{settle-refusal, written, Settled, Settles, Worth};
 ghost use Rattle.std.specs.declared.option.Option.the-variants.{None};
+ghost use Rattle.model.specs.declared.Reference.the-variants.{R};
+ghost use Rattle.clauses.specs.Sets.{code, member};
+ghost use Rattle.search.specs.declared.Why.the-variants.{Off};
 ghost use Rattle.station.specs.Views.{machine};
 ghost use Rattle.search.specs.States.{Refuses};
 use super::Frame;
@@ -82,14 +87,20 @@ pub fn settle<O: Order, R: Record>(file: &StationFile, order: &O, record: &mut R
 
 impl Mark {
     // An entry to begin lent memory with.
-    pub fn blank() -> Mark {
+    pub fn blank() -> Mark
+        ensures literal { λ r. ⌜ code (r .literal) ≡ pos 1 ⌝ }
+        ensures why { λ r. ⌜ r .why ≡ Off ⌝ }
+    {
         Mark { literal: Literal::first(), why: Why::Off }
     }
 }
 
 impl Frame {
     // An entry to begin lent memory with.
-    pub fn blank() -> Frame {
+    pub fn blank() -> Frame
+        ensures by { λ r. ⌜ r .by ≡ R 0 ⌝ }
+        ensures clause { λ r. ⌜ ((u : ℤ) → member (r .clause) u ≡ false) ⌝ }
+    {
         Frame { by: Reference::R(0), clause: LiteralSet::empty() }
     }
 }
