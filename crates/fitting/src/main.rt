@@ -1,8 +1,5 @@
 // fitting: reads a rule text from standard input and prints a fit-out that obeys every rule, or the argument that there is none.
-// The words of the output are the planners': option, rule and fit-out for variable, clause and valuation. The layout is in docs/fitting.md.
-mod report;
-
-use report::report;
+use reports::report;
 use std::error::AnyError;
 use std::io::Read;
 

@@ -1,4 +1,8 @@
-// What is printed of a text.
+// What `fitting` prints of a text. The words are the planners': option, rule and fit-out for variable, clause and valuation. The layout is in
+// docs/fitting.md.
+#[cfg(test)]
+mod tests;
+
 use model::Answer;
 use model::Decline;
 use model::Layer;
