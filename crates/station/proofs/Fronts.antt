@@ -23,6 +23,10 @@ fronts-more k k₁ k₂ lits lits₁ lits₂ ends ends₁ ends₂ f g = record {
   count = omega (arith, f .count, g .count);
 }
 
+pub fronts-same : (k k₁ : Counts) (lits lits₁ lits₂ : List ℤ) (ends ends₁ ends₂ : List ℕ) → lits₂ ≡ lits₁ → ends₂ ≡ ends₁ → Fronts k lits ends lits₁ ends₁ k₁ → Fronts k lits ends lits₂ ends₂ k₁
+fronts-same k k₁ lits lits₁ lits₂ ends ends₁ ends₂ a b f =
+    record { old-lits = ap (take (k .literals)) a ∙ f .old-lits; old-ends = ap (take (k .clauses)) b ∙ f .old-ends; low = f .low; count = f .count }
+
 -- the counts put back
 module _ (n : ℕ) (lits : List ℤ) (ends : List ℕ) (k : Counts) (lits′ : List ℤ) (ends′ : List ℕ) (k′ : Counts) (s : Sound n lits ends k) (f : Fronts k lits ends lits′ ends′ k′) where
   pub left-sound : Sound n lits′ ends′ k

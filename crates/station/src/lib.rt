@@ -10,6 +10,7 @@ pub mod calls;
 pub mod clients;
 pub mod entering;
 pub mod questions;
+pub mod reading;
 #[cfg(test)]
 mod tests;
 pub mod trials;
