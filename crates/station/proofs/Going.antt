@@ -17,7 +17,7 @@ use Rattle.model.specs.declared.TextFault.{TextFault}
 use Rattle.model.specs.Faults.{problem-fault, file-fault}
 use Rattle.model.specs.Words.{Placed, tokens}
 use Rattle.model.specs.Machine.{Machine}
-use Rattle.model.specs.Reading.{State, Step, on, stop, accepted, faulty, headed, took, holding, run, begun, reading}
+use Rattle.model.specs.Reading.{Reading, State, Step, on, stop, accepted, faulty, headed, took, holding, run, begun, reading}
 use Rattle.texts.specs.declared.Numeral.{Numeral}
 use Rattle.texts.specs.Steps.{Before, After, Takes, Heading, Counting}
 use Rattle.texts.proofs.Course.{started, stopped, run-takes, run-ends, fewer, holds-literal, declines-hand, enters-hand, no-problem-line}
@@ -69,8 +69,8 @@ module _ (n : ℕ) (text : List ℕ) (lits : List ℤ) (ends : List ℕ) (k : Co
       fronts = fronts-none k lits ends;
       count = omega arith;
       goes = λ number trials.
-        let b = begun (machine-in n number lits ends k trials) in
-        sym (run-takes (length text) b ts left (on (headed b c)) (then-as (Some c) e b (first number trials))) ∙ whole number trials;
+          let b = begun (machine-in n number lits ends k trials) in
+          sym (run-takes (length text) b ts left (on (headed b c)) (then-as (Some c) e b (first number trials))) ∙ whole number trials;
     }
 
 -- the numbers after it
@@ -118,11 +118,11 @@ module _ (n : ℕ) (text : List ℕ) (lits₀ : List ℤ) (ends₀ : List ℕ) (
         fronts = fronts-more saved k k′ lits₀ lits lits′ ends₀ ends ends′ (g .fronts) (a .fronts);
         count = omega (arith, g .count, a .one);
         goes = λ number trials.
-          let s = here number trials in
-          let y : done + 1 ≡ suc done = omega arith in
-          let q = enters-hand s (t .place) (t .value) z (a .allowed number trials) in
-          ap (λ (v : ℕ). run (length text) (on (stands c (machine-in n number lits′ ends′ k′ trials) v [])) left) y
-          ∙ (ap (λ (m : Machine). run (length text) (on (stands c m (suc done) [])) left) (a .now-in number trials) ∙ goes-on number trials _ q);
+            let s = here number trials in
+            let y : done + 1 ≡ suc done = omega arith in
+            let q = enters-hand s (t .place) (t .value) z (a .allowed number trials) in
+            ap (λ (v : ℕ). run (length text) (on (stands c (machine-in n number lits′ ends′ k′ trials) v [])) left) y
+            ∙ (ap (λ (m : Machine). run (length text) (on (stands c m (suc done) [])) left) (a .now-in number trials) ∙ goes-on number trials _ q);
       }
 
       pub literal-held : t .value ≢ pos 0 → (h′ : Hand) → Holds n h′ (g .ts ++ (t .value ∷ [])) → Going n text lits₀ ends₀ saved lits ends k c done h′ left
@@ -135,18 +135,18 @@ module _ (n : ℕ) (text : List ℕ) (lits₀ : List ℤ) (ends₀ : List ℕ) (
         goes = λ number trials. let s = here number trials in goes-on number trials (on (holding s (t .value))) (holds-literal s (t .place) (t .value) z);
       }
 
+-- a text that was accepted leaves the counts as they are
+
+pub done-sound : (n : ℕ) (lits : List ℤ) (ends : List ℕ) (k k′ : Counts) → Sound n lits ends k → k′ ≡ k → Sound n lits ends k′
+done-sound n lits ends k k′ s e = let P : Counts → Type 0 = λ z. Sound n lits ends z in subst P (sym e) s
+
+pub done-all : (n : ℕ) (lits : List ℤ) (ends : List ℕ) (k k′ : Counts) (done : ℕ) (whole : ℕ → List ℕ → Reading) → ((number : ℕ) (trials : List ℕ) → whole number trials ≡ accepted done (machine-in n number lits ends k trials)) → k′ ≡ k → (number : ℕ) (trials : List ℕ) → whole number trials ≡ accepted done (machine-in n number lits ends k′ trials)
+done-all n lits ends k k′ done whole w e number trials = w number trials ∙ ap (λ (z : Counts). accepted done (machine-in n number lits ends z trials)) (sym e)
+
 -- at a fault the counts are put back, and what stood stands
-module _ (n : ℕ) (text : List ℕ) (lits₀ : List ℤ) (ends₀ : List ℕ) (saved : Counts) (lits : List ℤ) (ends : List ℕ) (k : Counts) (s : Sound n lits₀ ends₀ saved) (f : Fronts saved lits₀ ends₀ lits ends k) (k′ : Counts) where
+module _ (n : ℕ) (lits₀ : List ℤ) (ends₀ : List ℕ) (saved : Counts) (lits : List ℤ) (ends : List ℕ) (k : Counts) (s : Sound n lits₀ ends₀ saved) (f : Fronts saved lits₀ ends₀ lits ends k) (k′ : Counts) where
   pub undone-sound : k′ ≡ saved → Sound n lits ends k′
-  undone-sound e = let P : Counts → Type 0 = λ z. Sound n lits ends z in subst P (sym e) (left-sound n lits₀ ends₀ saved lits ends k s f)
+  undone-sound e = done-sound n lits ends saved k′ (left-sound n lits₀ ends₀ saved lits ends k s f) e
 
-  pub undone : (x : ReadFault) → ((number : ℕ) (trials : List ℕ) → reading (machine-in n number lits₀ ends₀ saved trials) text ≡ faulty x) → k′ ≡ saved → (number : ℕ) (trials : List ℕ) → (reading (machine-in n number lits₀ ends₀ saved trials) text ≡ faulty x) × (machine-in n number lits ends k′ trials ≡ machine-in n number lits₀ ends₀ saved trials)
-  undone x w e number trials = (w number trials, ap (λ (z : Counts). machine-in n number lits ends z trials) e ∙ left-machine n lits₀ ends₀ saved lits ends k s f number trials)
-
--- a text that was accepted, with the counts that it left
-module _ (n : ℕ) (text : List ℕ) (lits₀ : List ℤ) (ends₀ : List ℕ) (saved : Counts) (lits : List ℤ) (ends : List ℕ) (k k′ : Counts) where
-  pub done-sound : Sound n lits ends k → k′ ≡ k → Sound n lits ends k′
-  done-sound s e = let P : Counts → Type 0 = λ z. Sound n lits ends z in subst P (sym e) s
-
-  pub accepted-so : (done : ℕ) → ((number : ℕ) (trials : List ℕ) → reading (machine-in n number lits₀ ends₀ saved trials) text ≡ accepted done (machine-in n number lits ends k trials)) → k′ ≡ k → (number : ℕ) (trials : List ℕ) → reading (machine-in n number lits₀ ends₀ saved trials) text ≡ accepted done (machine-in n number lits ends k′ trials)
-  accepted-so done w e number trials = w number trials ∙ ap (λ (z : Counts). accepted done (machine-in n number lits ends z trials)) (sym e)
+  pub undone : (text : List ℕ) (x : ReadFault) → ((number : ℕ) (trials : List ℕ) → reading (machine-in n number lits₀ ends₀ saved trials) text ≡ faulty x) → k′ ≡ saved → (number : ℕ) (trials : List ℕ) → (reading (machine-in n number lits₀ ends₀ saved trials) text ≡ faulty x) × (machine-in n number lits ends k′ trials ≡ machine-in n number lits₀ ends₀ saved trials)
+  undone text x w e number trials = (w number trials, ap (λ (z : Counts). machine-in n number lits ends z trials) e ∙ left-machine n lits₀ ends₀ saved lits ends k s f number trials)

@@ -20,6 +20,12 @@ use model::faults::ReadFromFile;
 use model::faults::ReadFromText;
 use texts::Reader;
 
+// The fault of every text before a start.
+const NEVER_STARTED: FileFault = FileFault {
+    place: 0,
+    decline: Decline::NotStarted,
+};
+
 // Puts the counts back as they were, unless the text was accepted.
 struct Guard<'a> {
     counts: &'a mut Counts,
@@ -83,10 +89,7 @@ fn read_into(
     ensures reads { λ r. ⌜ ReadInto n (now (lits .entry)) (now (ends .entry)) (now (counts .entry)) (now (text .entry)) (now (lits .exit)) (now (ends .exit)) (now (counts .exit)) r ⌝ }
 {
     if n == 0 {
-        return Err(ReadFault::InFile(FileFault {
-            place: 0,
-            decline: Decline::NotStarted,
-        }));
+        return Err(ReadFault::InFile(NEVER_STARTED));
     }
     let saved = *counts;
     let mut guard = Guard {

@@ -1,9 +1,14 @@
-// The limits of a file, at the edge and one past it, and trials taken back.
+// The limits of a file, at the edge and one past it, trials taken back, and texts read or refused.
 use super::StationFile;
 use super::clients;
 use model::Decline;
 use model::DeclineDebug;
 use model::DeclinePartialEq;
+use model::Layer;
+use model::LayerDebug;
+use model::LayerPartialEq;
+use model::ReadFaultDebug;
+use model::ReadFaultPartialEq;
 use std::test::*;
 
 fn started(variables: u32) -> StationFile {
@@ -94,4 +99,75 @@ fn first_literals() -> Result<(), Fail> {
     check_eq(file.enter(&[2, 3]), Ok(1))?;
     check_eq(clients::enter_first(&mut file, 1), Some(Ok(2)))?;
     check_eq(clients::enter_first(&mut file, 3), None)
+}
+
+// What a text does that a file of 2 variables and one clause refuses: number, place and layer of the fault, and the file as it stood.
+fn refused(text: &[u8], number: u8, place: usize, layer: Layer) -> Result<(), Fail> {
+    let mut file = started(2);
+    check_eq(file.enter(&[-1, 2]), Ok(1))?;
+    let fault = file.read(text).err().ok_or("the text was read")?;
+    check_eq(fault.number(), number)?;
+    check_eq(fault.place(), place)?;
+    check_eq(fault.layer(), layer)?;
+    check_eq(file.clauses(), 1)?;
+    let kept = file.show(1).ok_or("no clause 1")?;
+    check(kept.len() == 2)?;
+    check_eq(kept[0], -1)?;
+    check_eq(kept[1], 2)
+}
+
+#[test]
+fn a_text_is_read() -> Result<(), Fail> {
+    let mut file = started(2);
+    check_eq(file.enter(&[2]), Ok(1))?;
+    check_eq(file.read(b"c two\np cnf 2 2\n1 -2\n1 0 0\n"), Ok(2))?;
+    check_eq(file.clauses(), 3)?;
+    let first = file.show(2).ok_or("no clause 2")?;
+    check(first.len() == 2)?;
+    check_eq(first[0], 1)?;
+    check_eq(first[1], -2)?;
+    let second = file.show(3).ok_or("no clause 3")?;
+    check(second.len() == 0)?;
+    check_eq(file.read(b"p cnf 2 0"), Ok(0))?;
+    check_eq(file.clauses(), 3)
+}
+
+#[test]
+fn a_text_before_any_start() -> Result<(), Fail> {
+    let fault = StationFile::new()
+        .read(b"x")
+        .err()
+        .ok_or("the text was read")?;
+    check_eq(fault.number(), 3)?;
+    check_eq(fault.place(), 0)?;
+    check_eq(fault.layer(), Layer::File)
+}
+
+#[test]
+fn a_late_fault_takes_all_back() -> Result<(), Fail> {
+    refused(b"p cnf 2 3\n1 0 2 0 -1 x", 20, 21, Layer::Word)?;
+    refused(b"p cnf 2 3\n1 0 2 0 3 0", 4, 20, Layer::File)
+}
+
+#[test]
+fn faults_of_texts() -> Result<(), Fail> {
+    refused(b"c", 21, 1, Layer::Text)?;
+    refused(b"c\np cnf 3 1\n1 0", 22, 2, Layer::Text)?;
+    refused(b"p cnf 2 2\n1 0 -2", 23, 16, Layer::Text)?;
+    refused(b"p cnf 2 2\n1 0", 23, 13, Layer::Text)?;
+    refused(b"p cnf 2 1\n1 0 -2 0\n", 23, 19, Layer::Text)
+}
+
+#[test]
+fn a_text_that_is_too_long() -> Result<(), Fail> {
+    let mut file = started(1);
+    check_eq(repeated(&mut file, &[1], 999), Ok(()))?;
+    let fault = file.read(b"p cnf 1 2\n-1 0 -1 0")
+        .err()
+        .ok_or("the text was read")?;
+    check_eq(fault.number(), 6)?;
+    check_eq(fault.place(), 18)?;
+    check_eq(file.clauses(), 999)?;
+    check_eq(file.read(b"p cnf 1 1\n-1 0"), Ok(1))?;
+    check_eq(file.clauses(), 1000)
 }

@@ -1,7 +1,6 @@
-use mathlib.Core.Path.{_≡_, refl, sym, ap, subst, _∙_}
-use mathlib.Core.List.{List, [], _∷_, _++_}
+use mathlib.Core.Path.{_≡_, refl, sym, ap, _∙_}
+use mathlib.Core.List.{[], _∷_, _++_}
 use mathlib.Core.Logic.{_≢_}
-use Prim.Native.Nat.{ℕ}
 use borrow.Author.Needs.{needs}
 use lib.IntN.{pos}
 use mir.Val.{SFits, toZ, ofZ}
@@ -11,11 +10,10 @@ use Rattle.std.proofs.shelf.Signed.{toZ-ofZ}
 use Rattle.std.specs.declared.result.Result.the-variants.{Ok, Err}
 use Rattle.texts.specs.Scan.{rest-of}
 use Rattle.texts.proofs.Course.{not-started}
-use Rattle.station.specs.declared.Counts.{Counts}
 use Rattle.station.specs.Views.{machine-in}
-use Rattle.station.specs.Hands.{Holds, Sound}
+use Rattle.station.specs.Hands.{Holds}
 use Rattle.station.proofs.Fronts.{fronts-none, fronts-same}
-use Rattle.station.proofs.Going.{heading-fault, heading-none, heading-on, number-fault, at-end, shorter, zero-refused, zero-added, literal-held, undone, undone-sound, done-sound, accepted-so}
+use Rattle.station.proofs.Going.{heading-fault, heading-none, heading-on, number-fault, at-end, shorter, zero-refused, zero-added, literal-held, undone, undone-sound, done-sound, done-all}
 use Rattle.station.proofs.reading.read_into.Needs as need
 
 pub returns-then-n-eq0 : need.returns-then-n-eq0
@@ -26,12 +24,14 @@ pub returns-in-Break-declared : need.returns-in-Break-declared
 returns-in-Break-declared c =
     let p = err-from-errBy (c .from-residual .result) (c .from-residual .ensures .1) in
     let e = heading-fault (c .args .n) (c .args .text .now) (c .args .lits .now) (c .args .ends .now) (c .args .counts .now) (c .if-n-eq0 .left) _ (rest-of (c .heading .last .self)) (c .over-reader .ensures .all) _ (c .in-Break-declared .ensures tt .heads) in
-    record { sound = undone-sound (c .args .n) (c .args .text .now) (c .args .lits .now) (c .args .ends .now) (c .args .counts .now) _ _ _ (c .pre) (fronts-none (c .args .counts .now) (c .args .lits .now) (c .args .ends .now)) _ (search needs); reads = rw (p .1, p .2) (undone (c .args .n) (c .args .text .now) (c .args .lits .now) (c .args .ends .now) (c .args .counts .now) _ _ _ (c .pre) (fronts-none (c .args .counts .now) (c .args .lits .now) (c .args .ends .now)) _ _ e (search needs)) }
+    let f = fronts-none (c .args .counts .now) (c .args .lits .now) (c .args .ends .now) in
+    record { sound = undone-sound _ _ _ _ _ _ _ (c .pre) f _ (search needs); reads = rw (p .1, p .2) (undone _ _ _ _ _ _ _ (c .pre) f _ (c .args .text .now) _ e (search needs)) }
 
 pub returns-in-rest : need.returns-in-rest
 returns-in-rest c =
     let e = heading-none (c .args .n) (c .args .text .now) (c .args .lits .now) (c .args .ends .now) (c .args .counts .now) (c .if-n-eq0 .left) _ (rest-of (c .heading .last .self)) (c .over-reader .ensures .all) _ (c .in-Continue-declared .ensures tt .heads) (c .in-rest .is) in
-    record { sound = undone-sound (c .args .n) (c .args .text .now) (c .args .lits .now) (c .args .ends .now) (c .args .counts .now) _ _ _ (c .pre) (fronts-none (c .args .counts .now) (c .args .lits .now) (c .args .ends .now)) _ (search needs); reads = undone (c .args .n) (c .args .text .now) (c .args .lits .now) (c .args .ends .now) (c .args .counts .now) _ _ _ (c .pre) (fronts-none (c .args .counts .now) (c .args .lits .now) (c .args .ends .now)) _ _ e (search needs) }
+    let f = fronts-none (c .args .counts .now) (c .args .lits .now) (c .args .ends .now) in
+    record { sound = undone-sound _ _ _ _ _ _ _ (c .pre) f _ (search needs); reads = undone _ _ _ _ _ _ _ (c .pre) f _ (c .args .text .now) _ e (search needs) }
 
 pub loop-t-holds : need.loop-t-holds
 loop-t-holds c =
@@ -42,7 +42,7 @@ returns-in-Break-t c =
     let g = c .loop-t .inv .3 in
     let p = err-from-errBy (c .from-residual-in-Break-t .result) (c .from-residual-in-Break-t .ensures .1) in
     let e = number-fault _ _ _ _ _ _ _ _ _ _ _ _ g (rest-of (c .number .last .self)) _ (c .in-Break-t .ensures tt .counts) in
-    record { sound = undone-sound (c .args .n) (c .args .text .now) (c .args .lits .now) (c .args .ends .now) (c .args .counts .now) _ _ _ (c .pre) (g .fronts) _ (search needs); reads = rw (p .1, p .2) (undone (c .args .n) (c .args .text .now) (c .args .lits .now) (c .args .ends .now) (c .args .counts .now) _ _ _ (c .pre) (g .fronts) _ _ e (search needs)) }
+    record { sound = undone-sound _ _ _ _ _ _ _ (c .pre) (g .fronts) _ (search needs); reads = rw (p .1, p .2) (undone _ _ _ _ _ _ _ (c .pre) (g .fronts) _ (c .args .text .now) _ e (search needs)) }
 
 pub returns-in-Break-guard : need.returns-in-Break-guard
 returns-in-Break-guard c =
@@ -54,7 +54,7 @@ returns-in-Break-guard c =
     let r = c .in-Break-guard .ensures tt (g .ts) (g .holds) in
     let e = zero-refused _ _ _ _ _ _ _ _ _ _ _ _ g (rest-of (c .number .last .self)) _ (c .in-Continue-t .ensures tt .counts) (c .in-Some-2 .t) (c .in-Some-2 .is) z _ (c .entered-at .last .lits) (c .entered-at .last .ends) r in
     let f = fronts-same _ _ _ _ _ _ _ _ (r .1 .same-lits) (r .1 .same-ends) (g .fronts) in
-    record { sound = undone-sound (c .args .n) (c .args .text .now) (c .args .lits .now) (c .args .ends .now) (c .args .counts .now) _ _ _ (c .pre) f _ (search needs); reads = rw (p .1, p .2) (undone (c .args .n) (c .args .text .now) (c .args .lits .now) (c .args .ends .now) (c .args .counts .now) _ _ _ (c .pre) f _ _ e (search needs)) }
+    record { sound = undone-sound _ _ _ _ _ _ _ (c .pre) f _ (search needs); reads = rw (p .1, p .2) (undone _ _ _ _ _ _ _ (c .pre) f _ (c .args .text .now) _ e (search needs)) }
 
 pub loop-t-less-then-t-eq0 : need.loop-t-less-then-t-eq0
 loop-t-less-then-t-eq0 c = shorter _ _ _ _ _ _ _ _ _ _ _ _ (c .loop-t .inv .3) (rest-of (c .number .last .self)) _ (c .in-Continue-t .ensures tt .counts) (c .in-Some-2 .t) (c .in-Some-2 .is)
@@ -85,10 +85,11 @@ returns-in-Break-ended c =
     let g = c .loop-t .inv .3 in
     let p = err-from-errBy (c .from-residual-in-Break-ended .result) (c .from-residual-in-Break-ended .ensures .1) in
     let e = at-end _ _ _ _ _ _ _ _ _ _ _ _ g (rest-of (c .number .last .self)) _ (c .in-Continue-t .ensures tt .counts) (c .in-rest-2 .is) (Err _) (c .in-Break-ended .ensures tt) in
-    record { sound = undone-sound (c .args .n) (c .args .text .now) (c .args .lits .now) (c .args .ends .now) (c .args .counts .now) _ _ _ (c .pre) (g .fronts) _ (search needs); reads = rw (p .1, p .2) (undone (c .args .n) (c .args .text .now) (c .args .lits .now) (c .args .ends .now) (c .args .counts .now) _ _ _ (c .pre) (g .fronts) _ _ e (search needs)) }
+    record { sound = undone-sound _ _ _ _ _ _ _ (c .pre) (g .fronts) _ (search needs); reads = rw (p .1, p .2) (undone _ _ _ _ _ _ _ (c .pre) (g .fronts) _ (c .args .text .now) _ e (search needs)) }
 
 pub returns : need.returns
 returns c =
     let g = c .loop-t .inv .3 in
     let e = at-end _ _ _ _ _ _ _ _ _ _ _ _ g (rest-of (c .number .last .self)) _ (c .in-Continue-t .ensures tt .counts) (c .in-rest-2 .is) (Ok tt) (c .in-Continue-ended .ensures tt) in
-    record { sound = done-sound (c .args .n) (c .args .text .now) (c .args .lits .now) (c .args .ends .now) (c .args .counts .now) _ _ (c .loop-t .guard .counts .now) _ (g .sound) (search needs); reads = accepted-so (c .args .n) (c .args .text .now) (c .args .lits .now) (c .args .ends .now) (c .args .counts .now) _ _ (c .loop-t .guard .counts .now) _ (c .loop-t .done) e (search needs) }
+    let k = c .loop-t .guard .counts .now in
+    record { sound = done-sound _ _ _ k _ (g .sound) (search needs); reads = done-all _ _ _ k _ _ _ e (search needs) }
