@@ -26,15 +26,15 @@ const MOST_STEPS: usize = 2_000;
 
 // The lines to print, and whether the text was declined.
 #[derive(Drop)]
-pub struct Report {
+pub struct Printed {
     pub lines: String,
     pub declined: bool,
 }
 
-fn declined(heap: Global, number: u8, place: usize, layer: &str) -> Result<Report, AllocError> {
+fn declined(heap: Global, number: u8, place: usize, layer: &str) -> Result<Printed, AllocError> {
     let words = words_of(number);
     let lines = format!(heap, "declined {number} at byte {place} ({layer}): {words}\n")?;
-    Ok(Report { lines, declined: true })
+    Ok(Printed { lines, declined: true })
 }
 
 fn layer_of(fault: &ReadFault) -> &'static str {
@@ -63,7 +63,7 @@ fn words_of(number: u8) -> &'static str {
 }
 
 // Reads the text into a fresh file, as many options as its problem line says, else 1.
-pub fn report(heap: Global, text: &[u8]) -> Result<Report, AllocError> {
+pub fn report(heap: Global, text: &[u8]) -> Result<Printed, AllocError> {
     let mut file = StationFile::new();
     let options = match variables_of(text) {
         Some(n) => n,
@@ -79,7 +79,7 @@ pub fn report(heap: Global, text: &[u8]) -> Result<Report, AllocError> {
 }
 
 // Settles the file and says how it ended.
-fn settled(heap: Global, file: &StationFile, rules: u32, size: usize) -> Result<Report, AllocError> {
+fn settled(heap: Global, file: &StationFile, rules: u32, size: usize) -> Result<Printed, AllocError> {
     let n = file.variables() as usize;
     let order = ByNumber::new(n as u32);
     let mut bytes = vec![in heap; 0u8; MOST_STEPS * 28]?;
@@ -95,7 +95,7 @@ fn settled(heap: Global, file: &StationFile, rules: u32, size: usize) -> Result<
         Ok(Answer::Fits) => fits(heap, &mut out, &sheet)?,
         Ok(Answer::Cannot(closing)) => cannot(heap, &mut out, closing, lines.text())?,
     }
-    Ok(Report { lines: out, declined: false })
+    Ok(Printed { lines: out, declined: false })
 }
 
 // One literal for each option, and a closing 0.
