@@ -98,3 +98,15 @@ fn a_silent_record() -> Result<(), Fail> {
     check(silent.left() == None)?;
     check(silent.count() == 0)
 }
+
+// However much memory is lent.
+#[test]
+fn at_most_65535_steps(rt: LibcRuntime) -> Result<(), Fail> {
+    let heap = rt.alloc();
+    let mut enough = vec![in heap; first(); 65_535]?;
+    check(Table::new(&mut enough).left() == Some(65_535))?;
+    let mut more = vec![in heap; first(); 65_536]?;
+    check(Table::new(&mut more).left() == Some(65_535))?;
+    let mut bytes = vec![in heap; 0u8; 1_835_008]?;
+    check(Lines::new(&mut bytes).left() == Some(65_535))
+}
