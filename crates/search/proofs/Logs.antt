@@ -1,13 +1,12 @@
 -- The record after one step more, or where it takes none.
 use mathlib.Core.Path.{_≡_, refl, sym, ap, subst, _∙_}
 use mathlib.Core.Bool.{Bool, true, false, cond}
-use mathlib.Core.List.{List, [], _∷_, _++_, append-assoc, append-nil}
+use mathlib.Core.List.{List, [], _∷_, _++_, append-nil}
 use Prim.Native.Nat.{ℕ, zero, suc, _+_, _-_, min, _<_, _≤_}
 use native.Mathlib.Omega.{arith}
 use lib.Dec.{eqb, leb}
-use lib.ListN.{length, take, length-append}
+use lib.ListN.{length, length-append}
 use borrow.Author.Tests.{leb-true, le-leb, eqb-true, eqb-false}
-use Rattle.std.proofs.shelf.Lists.{take-all}
 use Rattle.std.specs.declared.option.Option.{Option}
 use Rattle.std.specs.declared.option.Option.the-variants.{Some, None}
 use Rattle.std.specs.declared.result.Result.the-variants.{Ok, Err}
@@ -15,37 +14,17 @@ use Rattle.model.specs.declared.Step.{Step}
 use Rattle.model.specs.declared.Decline.{Decline}
 use Rattle.model.specs.declared.Decline.the-variants.{RecordFull}
 use Rattle.model.specs.Settling.{RecordMeaning, takes, left-of, noted, takes-all, is-full, Puts}
+use Rattle.model.proofs.Noted.{noted-noted}
 use Rattle.search.specs.States.{Run, Logged}
 
-record-path : (a b : RecordMeaning) → a .keeps ≡ b .keeps → a .steps ≡ b .steps → a .room ≡ b .room → a ≡ b
-record-path a b p q r = λ i. record { keeps = p i; steps = q i; room = r i }
-
-take-one : (k : ℕ) (s : Step) → 0 < k → take k (s ∷ []) ≡ s ∷ []
-take-one k s h = take-all k (s ∷ []) (omega arith)
-
--- a record that took ss, and then s, took both
-both-taken : (room : Option ℕ) (ss : List Step) (s : Step) → takes-all room ss ≡ true → is-full (left-of room (length ss)) ≡ false
-    → (takes room ss ++ takes (left-of room (length ss)) (s ∷ []) ≡ takes room (ss ++ (s ∷ []))) × (left-of (left-of room (length ss)) 1 ≡ left-of room (length (ss ++ (s ∷ [])))) × (takes-all room (ss ++ (s ∷ [])) ≡ true)
-both-taken None ss s a f = (refl, refl, refl)
-both-taken (Some k) ss s a f =
+-- a record that took ss, and takes one more, takes all of them
+all-more : (room : Option ℕ) (ss : List Step) (s : Step) → takes-all room ss ≡ true → is-full (left-of room (length ss)) ≡ false → takes-all room (ss ++ (s ∷ [])) ≡ true
+all-more None ss s a f = refl
+all-more (Some k) ss s a f =
     let l = leb-true (length ss) k a in
     let z = eqb-false (k - length ss) 0 f in
     let e = length-append ss (s ∷ []) in
-    let h : length (ss ++ (s ∷ [])) ≤ k = omega (arith, z) in
-    (ap (λ (x : List Step). x ++ take (k - length ss) (s ∷ [])) (take-all k ss l) ∙ ap (λ (x : List Step). ss ++ x) (take-one (k - length ss) s (omega (arith, z))) ∙ sym (take-all k (ss ++ (s ∷ [])) h),
-    ap Some (omega arith), le-leb (length (ss ++ (s ∷ []))) k h)
-
-noted-more : (rec : RecordMeaning) (ss : List Step) (s : Step) → takes-all (rec .room) ss ≡ true → is-full (noted rec ss .room) ≡ false
-    → noted (noted rec ss) (s ∷ []) ≡ noted rec (ss ++ (s ∷ []))
-noted-more rec ss s a f =
-    let b = both-taken (rec .room) ss s a f in
-    record-path _ _ refl (steps (rec .keeps) (b .0)) (b .1)
-  where
-    steps : (c : Bool) → takes (rec .room) ss ++ takes (left-of (rec .room) (length ss)) (s ∷ []) ≡ takes (rec .room) (ss ++ (s ∷ []))
-        → cond c (cond c (rec .steps ++ takes (rec .room) ss) (rec .steps) ++ takes (left-of (rec .room) (length ss)) (s ∷ [])) (cond c (rec .steps ++ takes (rec .room) ss) (rec .steps))
-          ≡ cond c (rec .steps ++ takes (rec .room) (ss ++ (s ∷ []))) (rec .steps)
-    steps true e = append-assoc (rec .steps) (takes (rec .room) ss) (takes (left-of (rec .room) (length ss)) (s ∷ [])) ∙ ap (λ (x : List Step). rec .steps ++ x) e
-    steps false e = refl
+    le-leb (length (ss ++ (s ∷ []))) k (omega (arith, z))
 
 not-full : (b : Bool) → cond b (Some RecordFull) None ≡ None → b ≡ false
 not-full true e = absurd (let z : _≡_ {A = ℕ} 0 1 = cc in omega arith)
@@ -58,8 +37,8 @@ logged-more run rec rec′ count count′ ss s l p e =
     let k = length-append ss (s ∷ []) in
     let c = l .count-is in
     record {
-      noted-is = p .2 ∙ ap (λ (r : RecordMeaning). noted r (s ∷ [])) (l .noted-is) ∙ noted-more (run .before) ss s (l .all) f;
-      all = both-taken (run .before .room) ss s (l .all) f .2;
+      noted-is = p .2 ∙ ap (λ (r : RecordMeaning). noted r (s ∷ [])) (l .noted-is) ∙ noted-noted (run .before) ss (s ∷ []);
+      all = all-more (run .before .room) ss s (l .all) f;
       count-is = e ∙ omega arith;
     }
 
@@ -100,4 +79,4 @@ logged-none run rec e = record { noted-is = e ∙ none (run .before); all = take
     steps-same false xs room = refl
 
     none : (r : RecordMeaning) → r ≡ noted r []
-    none r = record-path r (noted r []) refl (steps-same (r .keeps) (r .steps) (r .room)) (room-same (r .room))
+    none r = λ i. record { keeps = r .keeps; steps = steps-same (r .keeps) (r .steps) (r .room) i; room = room-same (r .room) i }

@@ -8,9 +8,9 @@ use native.Mathlib.Numerals.{add-one}
 use lib.Dec.{eqb, leb}
 use lib.ListN.{length, getD, set, take, drop, replicate, length-append}
 use borrow.Author.Tests.{leb-true, le-leb, lt-leb}
-use Rattle.std.proofs.shelf.Tests.{eqb-true, not-false}
+use Rattle.std.proofs.shelf.Tests.{eqb-true, eq-eqb, not-false}
 use Rattle.model.proofs.Merging.{both}
-use Rattle.std.proofs.shelf.Lists.{take-all, drop-all, take-at}
+use Rattle.std.proofs.shelf.Lists.{take-all}
 use Rattle.std.specs.declared.option.Option.{Option}
 use Rattle.std.specs.declared.option.Option.the-variants.{Some, None}
 use Rattle.std.specs.declared.result.Result.{Result}
@@ -25,7 +25,8 @@ use Rattle.model.specs.Clauses.{Clause, Over, Member}
 use Rattle.model.specs.Search.{Setting, Branch, Outcome, fits, fails}
 use Rattle.model.specs.Arguments.{unset}
 use Rattle.model.specs.Machine.{Machine}
-use Rattle.model.specs.Settling.{OrderMeaning, Lists, RecordMeaning, byte, written, takes, left-of, takes-all, noted, told, settle-refusal, Settled}
+use Rattle.model.specs.Settling.{OrderMeaning, Lists, RecordMeaning, byte, written, left-of, takes-all, is-full, noted, told, settle-refusal, Settled}
+use Rattle.model.proofs.Noted.{noted-noted, noted-full}
 use Rattle.model.proofs.Ways.{finish}
 use Rattle.search.proofs.GoingOn.{going-start}
 use Rattle.search.specs.States.{Position, Run, Going, Ended, Halted, Ran}
@@ -106,17 +107,13 @@ module _ (m : Machine) (o : OrderMeaning) (rec rec′ : RecordMeaning) (sheet : 
       let t = told-all (e .ss) (fails r D) (e .all) in
       (e .ss, fails r D, e .branch, e .noted-is, sym (ap (λ (x : Result Answer Decline × List ℕ). x .0) t), sym (ap (λ (x : Result Answer Decline × List ℕ). x .1) t))
 
-  -- steps beyond those that the record takes change nothing
-  beyond : (room : Option ℕ) (xs ys : List Step) (y : Step) → room ≡ Some (length xs)
-      → (takes room xs ≡ takes room (xs ++ (y ∷ ys))) × (left-of room (length xs) ≡ left-of room (length (xs ++ (y ∷ ys)))) × (takes-all room (xs ++ (y ∷ ys)) ≡ false)
-  beyond None xs ys y e = absurd (let z : _≡_ {A = ℕ} 0 1 = cc in omega arith)
-  beyond (Some k) xs ys y e =
+  -- a record that took all it takes is full, and does not take one more
+  full : (room : Option ℕ) (xs ys : List Step) (y : Step) → room ≡ Some (length xs) → (is-full (left-of room (length xs)) ≡ true) × (takes-all room (xs ++ (y ∷ ys)) ≡ false)
+  full None xs ys y e = absurd (let z : _≡_ {A = ℕ} 0 1 = cc in omega arith)
+  full (Some k) xs ys y e =
       let q : k ≡ length xs = cc in
       let l = length-append xs (y ∷ ys) in
-      (take-all k xs (omega arith) ∙ sym (take-at xs (y ∷ ys) k (sym q)), ap Some (omega arith), lt-leb (length (xs ++ (y ∷ ys))) k (omega arith))
-
-  same-notes : (xs zs : List Step) → takes (rec .room) xs ≡ takes (rec .room) zs → left-of (rec .room) (length xs) ≡ left-of (rec .room) (length zs) → noted rec xs ≡ noted rec zs
-  same-notes xs zs e f = λ i. record { keeps = rec .keeps; steps = cond (rec .keeps) (rec .steps ++ e i) (rec .steps); room = f i }
+      (eq-eqb (k - length xs) 0 (omega arith), lt-leb (length (xs ++ (y ∷ ys))) k (omega arith))
 
   -- the record was full: the whole search makes a further step
   settled-full : Over (m .variables) (m .clauses) → Lists o → o .size ≡ m .variables → Halted this-run m rec′ → Settled None m o rec sheet (Err RecordFull) rec′ sheet
@@ -126,9 +123,9 @@ module _ (m : Machine) (o : OrderMeaning) (rec rec′ : RecordMeaning) (sheet : 
       let xs = h .done ++ h .ss in
       let zs = xs ++ (h .s ∷ w .0) in
       let split : (h .done ++ (h .ss ++ (h .s ∷ []))) ++ w .0 ≡ zs = simp append-assoc in
-      let b = beyond (rec .room) xs (w .0) (h .s) (h .room-is) in
-      (zs, w .1, subst (λ (ys : List Step). Branch (m .clauses) (o .list) (unset (m .variables)) 0 ys (w .1)) split (w .2), h .noted-is ∙ same-notes xs zs (b .0) (b .1),
-      sym (ap (λ (c : Bool). told c (w .1) sheet .0) (b .2)), sym (ap (λ (c : Bool). told c (w .1) sheet .1) (b .2)))
+      let b = full (rec .room) xs (w .0) (h .s) (h .room-is) in
+      (zs, w .1, subst (λ (ys : List Step). Branch (m .clauses) (o .list) (unset (m .variables)) 0 ys (w .1)) split (w .2), h .noted-is ∙ sym (noted-full (noted rec xs) (h .s ∷ w .0) (b .0)) ∙ noted-noted rec xs (h .s ∷ w .0),
+      sym (ap (λ (c : Bool). told c (w .1) sheet .0) (b .1)), sym (ap (λ (c : Bool). told c (w .1) sheet .1) (b .1)))
 
   -- what the whole search comes to
   pub settled-ran : Over (m .variables) (m .clauses) → Lists o → o .size ≡ m .variables → (p : Position) (r : Result Answer Decline) → Ran this-run m rec′ p r → Settled None m o rec sheet r rec′ (sheet-after r (p .settings))
