@@ -6,13 +6,25 @@ use Rattle.model.specs.declared.Decline.{Decline}
 use Rattle.model.specs.Machine.{Machine}
 use Rattle.model.specs.Settling.{RecordMeaning}
 use Rattle.search.specs.declared.State.{State}
+use Rattle.search.specs.declared.Stack.{Stack}
+use Rattle.search.specs.declared.Mark.{Mark}
 use Rattle.search.specs.declared.Frame.{Frame}
+use Rattle.search.specs.Stacks.{places-of, Sound}
 use Rattle.search.specs.declared.Turn.{Turn}
 use Rattle.search.specs.declared.Next.{Next}
 use Rattle.search.specs.States.{Position, Run, Room, Kept, Going, Stuck, Stepped, Advanced}
 
 pub kept-join : {a b c : State} → Kept a b → Kept b c → Kept a c
 kept-join p q = record { file-is = q .file-is ∙ p .file-is; trail-is = q .trail-is ∙ p .trail-is; frames-is = q .frames-is ∙ p .frames-is; trail-sound = λ s. q .trail-sound (p .trail-sound s); frames-sound = λ s. q .frames-sound (p .frames-sound s) }
+
+-- an entry was taken off the trail before, or off the frames after
+pub kept-popped : {a b : State} {t : Stack Mark} → Kept (record { file = a .file; settings = a .settings; trail = t; frames = a .frames; made = a .made }) b
+    → places-of t ≡ places-of (a .trail) → Sound t → Kept a b
+kept-popped k e s = record { file-is = k .file-is; trail-is = k .trail-is ∙ e; frames-is = k .frames-is; trail-sound = λ _. k .trail-sound s; frames-sound = k .frames-sound }
+
+pub kept-framed : {a b : State} {t : Stack Frame} → Kept a b → places-of t ≡ places-of (b .frames) → Sound t
+    → Kept a (record { file = b .file; settings = b .settings; trail = b .trail; frames = t; made = b .made })
+kept-framed k e s = record { file-is = k .file-is; trail-is = k .trail-is; frames-is = e ∙ k .frames-is; trail-sound = k .trail-sound; frames-sound = λ _. s }
 
 -- there is room still
 pub kept-room : {a b : State} → Kept a b → Room a → Room b

@@ -17,7 +17,7 @@ use Rattle.station.proofs.Files.{small-file}
 use Rattle.search.specs.declared.Turn.{Turn}
 use Rattle.search.specs.Stacks.{items}
 use Rattle.search.specs.States.{Position, Run, position, machine-of, Stepped}
-use Rattle.search.proofs.Keeping.{kept-join}
+use Rattle.search.proofs.Keeping.{kept-join, kept-popped, kept-framed}
 use Rattle.search.proofs.GoingBack.{top-index, marks-low, frames-low, settings-long, clause-there, frame-there, on-frames, stepped-clause, stepped-off, stepped-on}
 use Rattle.search.proofs.State.step_back.Needs as need
 
@@ -71,7 +71,7 @@ pub returns-in-Break-past : need.returns-in-Break-past
 returns-in-Break-past g c =
     let q = err-from-errBy (c .from-residual .result) (c .from-residual .ensures .1) in
     record {
-      kept = kept-join (record { file-is = c .clear .ensures .kept .file-is; trail-is = c .clear .ensures .kept .trail-is ∙ c .pop-mark .ensures .places; frames-is = c .clear .ensures .kept .frames-is; trail-sound = λ s. c .clear .ensures .kept .trail-sound (c .pop-mark .ensures .sound); frames-sound = c .clear .ensures .kept .frames-sound }) (c .past .ensures .kept);
+      kept = kept-join (kept-popped (c .clear .ensures .kept) (c .pop-mark .ensures .places) (c .pop-mark .ensures .sound)) (c .past .ensures .kept);
       tied = c .past .ensures .tied;
       stepped = λ run s. rw (q .1, q .2) (stepped-clause run _ _ _ _ s _ (c .pop-mark .result) (c .pop-mark .ensures .items) (position (c .clear .last .self)) (position (c .past .last .self)) (c .past .last .failure) _ (c .frame-of-setter .result)
           (c .clear .ensures .position) (c .in-Clause .k) (c .in-Clause .is) (c .frame-of-setter .ensures .by)
@@ -82,7 +82,7 @@ returns-in-Break-past g c =
 pub returns-in-Continue-past : need.returns-in-Continue-past
 returns-in-Continue-past g c =
     record {
-      kept = kept-join (record { file-is = c .clear .ensures .kept .file-is; trail-is = c .clear .ensures .kept .trail-is ∙ c .pop-mark .ensures .places; frames-is = c .clear .ensures .kept .frames-is; trail-sound = λ s. c .clear .ensures .kept .trail-sound (c .pop-mark .ensures .sound); frames-sound = c .clear .ensures .kept .frames-sound }) (c .past .ensures .kept);
+      kept = kept-join (kept-popped (c .clear .ensures .kept) (c .pop-mark .ensures .places) (c .pop-mark .ensures .sound)) (c .past .ensures .kept);
       tied = c .past .ensures .tied;
       stepped = λ run s. stepped-clause run _ _ _ _ s _ (c .pop-mark .result) (c .pop-mark .ensures .items) (position (c .clear .last .self)) (position (c .past .last .self)) (c .past .last .failure) _ (c .frame-of-setter .result)
           (c .clear .ensures .position) (c .in-Clause .k) (c .in-Clause .is) (c .frame-of-setter .ensures .by)
@@ -93,7 +93,7 @@ returns-in-Continue-past g c =
 pub returns-in-On : need.returns-in-On
 returns-in-On g c =
     record {
-      kept = kept-join (record { file-is = c .clear .ensures .kept .file-is; trail-is = c .clear .ensures .kept .trail-is ∙ c .pop-mark .ensures .places; frames-is = c .clear .ensures .kept .frames-is; trail-sound = λ s. c .clear .ensures .kept .trail-sound (c .pop-mark .ensures .sound); frames-sound = c .clear .ensures .kept .frames-sound }) (c .turn .ensures .kept);
+      kept = kept-join (kept-popped (c .clear .ensures .kept) (c .pop-mark .ensures .places) (c .pop-mark .ensures .sound)) (c .turn .ensures .kept);
       tied = g .R·Record .stays _;
       stepped = λ run s. stepped-on run _ _ _ _ s _ (c .pop-mark .result) (c .pop-mark .ensures .items) (position (c .clear .last .self)) (position (c .turn .last .self)) (c .clear .ensures .position) (c .in-On .is) (c .turn .result) (c .turn .ensures .turned);
     }
@@ -102,7 +102,7 @@ pub returns-in-Break-past-2 : need.returns-in-Break-past-2
 returns-in-Break-past-2 g c =
     let q = err-from-errBy (c .from-residual-in-Break-past-2 .result) (c .from-residual-in-Break-past-2 .ensures .1) in
     record {
-      kept = kept-join (record { file-is = c .clear .ensures .kept .file-is; trail-is = c .clear .ensures .kept .trail-is ∙ c .pop-mark .ensures .places; frames-is = c .pop-setter .ensures .places ∙ c .clear .ensures .kept .frames-is; trail-sound = λ s. c .clear .ensures .kept .trail-sound (c .pop-mark .ensures .sound); frames-sound = λ s. c .pop-setter .ensures .sound }) (c .past-in-Off .ensures .kept);
+      kept = kept-join (kept-framed (kept-popped (c .clear .ensures .kept) (c .pop-mark .ensures .places) (c .pop-mark .ensures .sound)) (c .pop-setter .ensures .places) (c .pop-setter .ensures .sound)) (c .past-in-Off .ensures .kept);
       tied = c .past-in-Off .ensures .tied;
       stepped = λ run s. rw (q .1, q .2) (stepped-off run _ _ _ _ s _ (c .pop-mark .result) (c .pop-mark .ensures .items) (position (c .clear .last .self)) (position (c .past-in-Off .last .self)) (c .past-in-Off .last .failure) _ (c .pop-setter .result)
           (c .clear .ensures .position) (c .in-Off .is) (items (c .pop-setter .last .self)) (c .pop-setter .ensures .items)
@@ -112,7 +112,7 @@ returns-in-Break-past-2 g c =
 pub returns-in-Continue-past-2 : need.returns-in-Continue-past-2
 returns-in-Continue-past-2 g c =
     record {
-      kept = kept-join (record { file-is = c .clear .ensures .kept .file-is; trail-is = c .clear .ensures .kept .trail-is ∙ c .pop-mark .ensures .places; frames-is = c .pop-setter .ensures .places ∙ c .clear .ensures .kept .frames-is; trail-sound = λ s. c .clear .ensures .kept .trail-sound (c .pop-mark .ensures .sound); frames-sound = λ s. c .pop-setter .ensures .sound }) (c .past-in-Off .ensures .kept);
+      kept = kept-join (kept-framed (kept-popped (c .clear .ensures .kept) (c .pop-mark .ensures .places) (c .pop-mark .ensures .sound)) (c .pop-setter .ensures .places) (c .pop-setter .ensures .sound)) (c .past-in-Off .ensures .kept);
       tied = c .past-in-Off .ensures .tied;
       stepped = λ run s. stepped-off run _ _ _ _ s _ (c .pop-mark .result) (c .pop-mark .ensures .items) (position (c .clear .last .self)) (position (c .past-in-Off .last .self)) (c .past-in-Off .last .failure) _ (c .pop-setter .result)
           (c .clear .ensures .position) (c .in-Off .is) (items (c .pop-setter .last .self)) (c .pop-setter .ensures .items)
