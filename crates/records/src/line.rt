@@ -34,7 +34,7 @@ fn write_reference(places: &mut [u8], reference: Reference)
     }
 }
 
-pub fn write(step: Step) -> [u8; 28]
+pub(crate) fn write(step: Step) -> [u8; 28]
     ensures written { λ r. ⌜ r ≡ line step ⌝ }
     ensures read_back { λ r. ⌜ said r ≡ step ⌝ }
 {
@@ -70,7 +70,7 @@ fn read_reference(bytes: &[u8]) -> Reference
     }
 }
 
-pub fn read(bytes: &[u8]) -> Step
+pub(crate) fn read(bytes: &[u8]) -> Step
     requires { ⌜ length (now bytes) ≡ 28 ⌝ }
     ensures { λ r. ⌜ r ≡ said (now (bytes .entry)) ⌝ }
 {

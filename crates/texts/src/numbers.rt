@@ -5,7 +5,7 @@ ghost use Rattle.model.specs.Numbers.{natural as Natural, integer as Integer, p
 ghost use Rattle.texts.specs.Scan.{Small};
 
 // What 1 to 6 digits write.
-pub fn natural(w: &[u8]) -> Option<u32>
+pub(crate) fn natural(w: &[u8]) -> Option<u32>
     ensures value { λ r. ⌜ r ≡ Natural (now (w .entry)) ⌝ }
     ensures small { λ r. ⌜ Small r ⌝ }
 {
@@ -41,7 +41,7 @@ fn negative(v: Option<u32>) -> Option<i32>
 }
 
 // What a word writes that is a number.
-pub fn integer(w: &[u8]) -> Option<i32>
+pub(crate) fn integer(w: &[u8]) -> Option<i32>
     ensures { λ r. ⌜ r ≡ Integer (now (w .entry)) ⌝ }
 {
     if w.len() > 0 && w[0] == 45 {

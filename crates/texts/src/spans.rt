@@ -7,20 +7,20 @@ ghost use Rattle.model.specs.Words.{blank, ends-line, ends-word};
 ghost use Rattle.texts.specs.Scan.{Spans, Opens};
 use super::LineKind;
 
-pub fn is_blank(b: u8) -> bool
+pub(crate) fn is_blank(b: u8) -> bool
     ensures { λ r. ⌜ r ≡ blank b ⌝ }
 {
     b == 32 || b == 9 || b == 13
 }
 
-pub fn cuts_words(b: u8) -> bool
+pub(crate) fn cuts_words(b: u8) -> bool
     ensures { λ r. ⌜ r ≡ ends-word b ⌝ }
 {
     b == 10 || is_blank(b)
 }
 
 // What a line is, by its first byte.
-pub fn kind_of_line(first: u8) -> LineKind
+pub(crate) fn kind_of_line(first: u8) -> LineKind
     ensures { λ r. ⌜ Opens first r ⌝ }
 {
     match first as char {
@@ -32,7 +32,7 @@ pub fn kind_of_line(first: u8) -> LineKind
 }
 
 // The end of the line from a place on.
-pub fn line_to(text: &[u8], from: usize) -> usize
+pub(crate) fn line_to(text: &[u8], from: usize) -> usize
     requires { ⌜ from ≤ length (now text) ⌝ }
     ensures { λ r. ⌜ Spans ends-line (now (text .entry)) from r ⌝ }
 {
@@ -44,7 +44,7 @@ pub fn line_to(text: &[u8], from: usize) -> usize
 }
 
 // The end of the word from a place on.
-pub fn word_to(text: &[u8], from: usize) -> usize
+pub(crate) fn word_to(text: &[u8], from: usize) -> usize
     requires { ⌜ from ≤ length (now text) ⌝ }
     ensures { λ r. ⌜ Spans ends-word (now (text .entry)) from r ⌝ }
 {

@@ -8,7 +8,7 @@ use super::spans::cuts_words;
 use super::spans::word_to;
 
 impl<'a> LineWords<'a> {
-    pub fn over(line: &'a [u8]) -> LineWords<'a>
+    pub(crate) fn over(line: &'a [u8]) -> LineWords<'a>
         ensures { λ r. ⌜ words-left r ≡ spellings (now (line .entry)) ⌝ }
     {
         LineWords { line, at: 0 }
@@ -22,7 +22,7 @@ impl<'a> LineWords<'a> {
         }
     }
 
-    pub fn next(&mut self) -> Option<&'a [u8]>
+    pub(crate) fn next(&mut self) -> Option<&'a [u8]>
         ensures { λ r. ⌜ GivesWord (now (self .entry)) (now (self .exit)) r ⌝ }
     {
         self.skip();
