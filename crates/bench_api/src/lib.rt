@@ -1,5 +1,7 @@
 // The calls that the benchmark (bench/) makes through a static library: numbers and byte slices only. What they call is proved; they themselves
 // promise nothing but that they are safe and end.
+#![tactic(auto)]
+
 ghost use Rattle.std.proofs.lemmas.Bool.{false≢true};
 ghost use Rattle.records.specs.Kept.{nothing_kept};
 

@@ -1,4 +1,6 @@
 // Cabinets worked by hand: what `fitting` prints of each is held to the stored output.
+#![tactic(auto)]
+
 use reports::report;
 
 fn show(rt: &HostRuntime, name: &str, text: &[u8]) -> anyhow::Result<()> {

@@ -1,7 +1,7 @@
 -- The resolvent of sets holds the clause of a step.
-use Rattle.std.proofs.Common.{◌≡◌, ℕ, zero, suc, ◌<◌, ◌≤◌, Bool, true, false, cond, not, ◌&&◌, ◌||◌, List, [], ◌∷◌, ◌++◌, ℤ, pos, negsuc, sym, refl, ap, ◌∙◌, subst, arith}
+use Rattle.std.proofs.Common.{◌≡◌, ℕ, Bool, true, false, cond, not, ◌&&◌, ◌||◌, [], ◌∷◌, ◌++◌, ℤ, sym, refl, ap, ◌∙◌}
 use Rattle.std.proofs.lemmas.Bool.{false≢true}
-use Rattle.model.specs.Clauses.{Clause, on, off, opposite, ◌∈◌, same, has}
+use Rattle.model.specs.Clauses.{Clause, on, off, same, has}
 use Rattle.model.specs.Checking.{without}
 use Rattle.model.proofs.Signs.{same_refl, same_true, has_in, in_has}
 use Rattle.clauses.specs.declared.LiteralSet.{LiteralSet}

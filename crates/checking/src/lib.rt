@@ -1,4 +1,6 @@
 // Checking an argument (a resolution refutation), whoever made it: see docs/arguments.md.
+#![tactic(auto)]
+
 ghost use Rattle.std.specs.Prelude.{◌≡◌, ℕ, ◌≤◌, length};
 ghost use Rattle.model.specs.Checking.{Checks, CheckWorth};
 ghost use Rattle.station.specs.Views.{machine};

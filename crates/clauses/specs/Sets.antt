@@ -1,5 +1,5 @@
 -- What a literal and a set of literals of the code stand for.
-use Rattle.std.specs.Prelude.{◌≡◌, ℕ, zero, suc, ◌≤◌, Bool, true, false, cond, not, ◌&&◌, ◌||◌, ℤ, pos, negsuc, Some, None, Option, slice_index_or}
+use Rattle.std.specs.Prelude.{◌≡◌, zero, suc, Bool, true, false, cond, not, ◌&&◌, ◌||◌, ℤ, pos, negsuc, Some, None, Option, slice_index_or}
 use Rattle.model.specs.Clauses.{Clause, ◌∈◌, Within, opposite, same, has}
 use Rattle.model.specs.Machine.{names}
 use Rattle.clauses.specs.declared.Literal.{Literal}

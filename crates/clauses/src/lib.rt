@@ -1,4 +1,6 @@
 // Literals as the search holds them, and sets of literals: a clause in any order, with nothing twice.
+#![tactic(auto)]
+
 pub mod literals;
 pub mod sets;
 

@@ -1,4 +1,6 @@
 // fitting: reads a rule text from standard input and prints a fit-out that obeys every rule, or the argument that there is none.
+#![tactic(auto)]
+
 use anyhow::anyhow;
 use reports::report;
 use std::io::Read;

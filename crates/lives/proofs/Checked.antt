@@ -1,13 +1,13 @@
 -- Checking accepts exactly the arguments.
-use Rattle.std.proofs.Common.{◌≡◌, ℕ, zero, suc, ◌+◌, ◌-◌, ◌<◌, ◌≤◌, Bool, true, false, cond, not, ◌&&◌, eqb, ltb, ◌≢◌, ◌⊎◌, List, [], ◌∷◌, ◌++◌, length, ℤ, pos, negsuc, Some, None, Ok, Err, Option, Result, sym, refl, ap, ◌∙◌, subst, inl, inr, ⊎_elim, append_assoc, append-nil, arith}
+use Rattle.std.proofs.Common.{◌≡◌, ℕ, zero, suc, ◌<◌, ◌≤◌, Bool, true, false, cond, ◌&&◌, eqb, ltb, ◌≢◌, ◌⊎◌, List, [], ◌∷◌, ◌++◌, length, ℤ, Some, None, Ok, Err, Option, Result, sym, refl, ap, ◌∙◌, subst, inl, inr, ⊎_elim, append_assoc, append-nil, arith}
 use Rattle.std.specs.List.{slice_get}
-use Rattle.std.proofs.lemmas.Bool.{eq-eqb, ne_eqb, eqb-false, le-ltb, ltb-false, false≢true, and_from, and_parts}
+use Rattle.std.proofs.lemmas.Bool.{ne_eqb, eqb-false, le-ltb, ltb-false, false≢true, and_from, and_parts}
 use Rattle.model.specs.declared.Reference.{Reference}
 use Rattle.model.specs.declared.Reference.TheVariants.{R, S}
 use Rattle.model.specs.declared.Step.{Step}
 use Rattle.model.specs.declared.Decline.{Decline}
 use Rattle.model.specs.declared.Decline.TheVariants.{NotStarted, FewClausePlaces, LacksVariable}
-use Rattle.model.specs.Clauses.{Clause, ◌∈◌, on, off, Resolvent, LeftOver, same, has}
+use Rattle.model.specs.Clauses.{Clause, ◌∈◌, on, off, Resolvent, same, has}
 use Rattle.model.specs.Arguments.{At, at_first, at_later, Named, rule, step, Derives, none, one_more, Argument, SameLiterals}
 use Rattle.model.specs.Machine.{Machine, clause_at}
 use Rattle.model.specs.Checking.{named, without, step_clause, at_closing, check_from, either_refusal, check_refusal, Checks, CheckWorth}
@@ -16,7 +16,7 @@ use Rattle.model.proofs.Members.{in_left, in_right, in_either}
 use Rattle.model.proofs.Resolution.{no_model}
 use Rattle.model.proofs.Same.{resolvent_same, same_of}
 use Rattle.lives.specs.Lives.{Pairs, Exact}
-use Rattle.lives.proofs.Refusals.{some_none, row_false}
+use Rattle.lives.proofs.Refusals.{some_none}
 
 same_self : (t u : ℤ) → t ≡ u → same t u ≡ true
 same_self t u e = subst (λ (x : ℤ). same t x ≡ true) e (same_refl t)

@@ -7,7 +7,7 @@ use Rattle.model.specs.declared.Answer.TheVariants.{Fits, Cannot}
 use Rattle.model.specs.declared.Decline.{Decline}
 use Rattle.model.specs.declared.Decline.TheVariants.{RecordFull}
 use Rattle.model.specs.declared.ReadFault.{ReadFault}
-use Rattle.model.specs.Clauses.{Clause, Valuation, Model, Each}
+use Rattle.model.specs.Clauses.{Valuation, Model, Each}
 use Rattle.model.specs.Arguments.{reads, Argument}
 use Rattle.model.specs.Machine.{Machine, fresh, SlipState, filled, Enters, Opens, Closes}
 use Rattle.model.specs.Reading.{accepted, reading, Reads}

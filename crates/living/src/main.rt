@@ -1,4 +1,6 @@
 // Lives of a file, replayed call by call.
+#![tactic(auto)]
+
 use anyhow::anyhow;
 use orders::by_number::ByNumber;
 use records::silent::Silent;

@@ -1,8 +1,8 @@
 -- A branch makes fewer steps than 2 to the number of its unset variables.
-use Rattle.std.proofs.Common.{◌≡◌, ℕ, zero, suc, ◌+◌, ◌*◌, ◌^◌, ◌<◌, ◌≤◌, Bool, true, false, cond, eqb, List, [], ◌∷◌, ◌++◌, length, get_or, set, replicate, ℤ, pos, negsuc, sym, refl, ap, ◌∙◌, subst, arith, length-append, pow_pos}
+use Rattle.std.proofs.Common.{◌≡◌, ℕ, zero, suc, ◌+◌, ◌^◌, ◌<◌, ◌≤◌, Bool, true, false, cond, eqb, List, [], ◌∷◌, ◌++◌, length, get_or, set, ℤ, pos, negsuc, refl, ap, arith, length-append, pow_pos}
 use native.Mathlib.Nat.{two-pow-succ}
 use Rattle.model.specs.Clauses.{Clause, on, off}
-use Rattle.model.specs.Search.{Setting, entry, value, flipped, make_true, Reference, Step, Outcome, Back, passes, joins, Branch, conflict, forced, satisfied, on_ends, then_off}
+use Rattle.model.specs.Search.{Setting, value, make_true, Reference, Step, Outcome, Back, passes, joins, Branch, conflict, forced, satisfied, on_ends, then_off}
 use Rattle.model.specs.Arguments.{unset}
 use Rattle.model.proofs.Values.{flipped_two, off_two}
 use Rattle.model.proofs.Failing.{chosen_unset}

@@ -1,8 +1,8 @@
 -- The steps of a branch derive the clause that it fails with.
-use Rattle.std.proofs.Common.{◌≡◌, ℕ, zero, suc, ◌+◌, ◌<◌, ◌≤◌, min, List, [], ◌∷◌, ◌++◌, length, ℤ, pos, negsuc, sym, refl, ap, ◌∙◌, subst, append_assoc, append-nil, arith, length-append}
-use Rattle.model.specs.Clauses.{Clause, Resolvent}
-use Rattle.model.specs.Search.{Setting, First, here, later, Reference, R, S, Step, Outcome, fits, fails, made, Joined, Back, passes, joins, Branch, conflict, forced, satisfied, on_ends, then_off}
-use Rattle.model.specs.Arguments.{At, at_first, at_later, Named, rule, step, Derives, none, one_more, Argument}
+use Rattle.std.proofs.Common.{◌≡◌, ℕ, suc, ◌+◌, ◌≤◌, min, List, [], ◌∷◌, ◌++◌, length, ℤ, pos, negsuc, sym, refl, ap, subst, append_assoc, append-nil, arith, length-append}
+use Rattle.model.specs.Clauses.{Clause}
+use Rattle.model.specs.Search.{Setting, First, here, later, Reference, Step, Outcome, fits, fails, made, Joined, Back, passes, joins, Branch, conflict, forced, satisfied, on_ends, then_off}
+use Rattle.model.specs.Arguments.{At, at_first, at_later, Named, rule, step, Derives, none, one_more}
 use Rattle.model.proofs.Lists.{at_grows, at_last}
 
 abbrev Names : List Clause → List Clause → Outcome → Type 0

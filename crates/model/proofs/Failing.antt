@@ -1,7 +1,7 @@
 -- A clause that a branch fails with is false at its setting.
-use Rattle.std.proofs.Common.{◌≡◌, ℕ, zero, suc, ◌+◌, ◌<◌, ◌≤◌, ◌≢◌, ◌⊎◌, List, [], ◌∷◌, ◌++◌, length, get_or, set, ℤ, pos, negsuc, sym, refl, ap, ◌∙◌, subst, inl, inr, ⊎_elim, arith}
-use Rattle.model.specs.Clauses.{Clause, on, off, opposite, ◌∈◌, Each, Resolvent, LeftOver}
-use Rattle.model.specs.Search.{Setting, entry, value, make_true, AllFalse, UnitOn, SomeUnit, First, here, later, Chosen, this, next, Reference, R, S, Step, Outcome, fits, fails, Joined, Lacks, Back, passes, joins, Branch, conflict, forced, satisfied, on_ends, then_off}
+use Rattle.std.proofs.Common.{◌≡◌, ℕ, ◌≢◌, ◌⊎◌, List, ℤ, pos, negsuc, inl, inr, ⊎_elim}
+use Rattle.model.specs.Clauses.{Clause, on, opposite, ◌∈◌}
+use Rattle.model.specs.Search.{Setting, entry, value, make_true, AllFalse, First, here, later, Chosen, this, next, Reference, Step, Outcome, fits, fails, Joined, Lacks, Back, passes, joins, Branch, conflict, forced, satisfied, on_ends, then_off}
 use Rattle.model.proofs.Values.{false_before, off_two}
 
 abbrev pub Failing : Setting → Outcome → Type 0

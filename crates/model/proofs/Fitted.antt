@@ -1,5 +1,5 @@
 -- A setting that a branch ends with satisfies every rule.
-use Rattle.std.proofs.Common.{◌≡◌, ℕ, zero, suc, ◌+◌, Bool, true, false, not, eqb, List, [], ◌∷◌, ◌++◌, get_or, ℤ, pos, negsuc, sym, refl, ap, ◌∙◌, subst, arith}
+use Rattle.std.proofs.Common.{◌≡◌, ℕ, zero, suc, true, List, get_or, ℤ, pos, negsuc, refl, arith}
 use Rattle.model.specs.Clauses.{Clause, Satisfies, Model, true_at}
 use Rattle.model.specs.Search.{Setting, value, flipped, SomeTrue, Reference, Step, Outcome, fits, fails, Back, passes, joins, Branch, conflict, forced, satisfied, on_ends, then_off}
 use Rattle.model.specs.Arguments.{reads}

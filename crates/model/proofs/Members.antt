@@ -1,5 +1,5 @@
 -- Members of joined, cut and extended clauses.
-use Rattle.std.proofs.Common.{◌≡◌, ℕ, zero, suc, ◌<◌, ◌⊎◌, List, [], ◌∷◌, ◌++◌, length, get_or, take, drop, ℤ, refl, inl, inr, arith}
+use Rattle.std.proofs.Common.{◌≡◌, ℕ, zero, suc, ◌<◌, ◌⊎◌, [], ◌∷◌, ◌++◌, length, get_or, take, drop, ℤ, refl, inl, inr, arith}
 use Rattle.model.specs.Clauses.{Clause, ◌∈◌}
 
 pub in_left : (t : ℤ) (C D : Clause) → t ∈ C → t ∈ (C ++ D)

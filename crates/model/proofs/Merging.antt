@@ -1,10 +1,10 @@
 -- Equal literals merged: what is kept, and what holds of it.
-use Rattle.std.proofs.Common.{◌≡◌, ℕ, zero, suc, ◌+◌, ◌≤◌, Bool, true, false, cond, ltb, leb, ◌⊎◌, List, [], ◌∷◌, ◌++◌, length, take, drop, ℤ, pos, negsuc, sym, refl, ap, ◌∙◌, subst, inl, inr, ⊎_elim, arith, ltb-true, eq-eqb, eqb-true, leb-true}
+use Rattle.std.proofs.Common.{◌≡◌, ℕ, zero, suc, ◌+◌, ◌≤◌, Bool, true, false, cond, ◌⊎◌, List, [], ◌∷◌, ◌++◌, length, take, drop, ℤ, sym, refl, ap, ◌∙◌, subst, inl, inr, ⊎_elim, arith}
 use borrow.Author.Tests.{clash}
 use Rattle.std.proofs.lemmas.List.{length_push}
-use Rattle.model.specs.Clauses.{Clause, variable, Member, Each, ◌∈◌, Within, Over, same, has}
+use Rattle.model.specs.Clauses.{Clause, Member, Each, ◌∈◌, Over, same, has}
 use Rattle.model.specs.Arguments.{SameLiterals}
-use Rattle.model.proofs.Signs.{same_refl, same_true, same_false, names_within}
+use Rattle.model.proofs.Signs.{same_true, names_within}
 use Rattle.model.specs.Machine.{every, names, merged}
 use Rattle.model.proofs.Members.{in_left, in_right, in_either}
 

@@ -1,11 +1,11 @@
-use Rattle.std.proofs.Common.{◌≡◌, ℕ, zero, suc, ◌+◌, ◌-◌, Bool, true, false, cond, eqb, List, [], ◌∷◌, ◌++◌, length, take, Some, None, Ok, Err, Option, Result, sym, refl, ap, ◌∙◌, arith, eqb-true}
+use Rattle.std.proofs.Common.{◌≡◌, ℕ, zero, suc, ◌-◌, Bool, true, false, cond, List, [], ◌∷◌, ◌++◌, length, take, Some, None, Ok, Err, Option, Result, sym, refl, ap, ◌∙◌, arith, eqb-true}
 use Rattle.std.proofs.lemmas.List.{append-nil, append_assoc, length-append}
-use Rattle.std.proofs.lemmas.Bool.{false≢true, cases_Bool}
+use Rattle.std.proofs.lemmas.Bool.{false≢true}
 use Rattle.model.specs.declared.Step.{Step}
 use Rattle.model.specs.declared.Decline.{Decline}
 use Rattle.model.specs.declared.Decline.TheVariants.{RecordFull}
 use Rattle.model.specs.Machine.{first}
-use Rattle.model.specs.Settling.{RecordMeaning, takes, left_of, noted, is_full, put_refusal, Puts}
+use Rattle.model.specs.Settling.{RecordMeaning, takes, left_of, noted, is_full, Puts}
 
 meanings : (k : Bool) (ss us : List Step) (r t : Option ℕ) → ss ≡ us → r ≡ t → ◌≡◌ {A = RecordMeaning} (record { keeps = k; steps = ss; room = r }) (record { keeps = k; steps = us; room = t })
 meanings k ss us r t p q = cc

@@ -1,5 +1,5 @@
 -- Clauses by their numbers, from 1.
-use Rattle.std.proofs.Common.{◌≡◌, ℕ, zero, suc, ◌+◌, ◌-◌, ◌<◌, ◌≤◌, List, [], ◌∷◌, ◌++◌, length, get_or, take, Some, None, Option, sym, refl, ap, ◌∙◌, subst, add-one, arith}
+use Rattle.std.proofs.Common.{◌≡◌, ℕ, zero, suc, ◌+◌, ◌<◌, ◌≤◌, List, [], ◌∷◌, ◌++◌, length, take, Some, None, refl, ap, subst, add-one, arith}
 use Rattle.std.specs.List.{slice_get}
 use Rattle.model.specs.Clauses.{Clause, Each}
 use Rattle.model.specs.Search.{First, here, later}

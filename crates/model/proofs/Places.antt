@@ -1,7 +1,7 @@
 -- Members, firsts and each by their places, as a loop over a list has them.
-use Rattle.std.proofs.Common.{◌≡◌, ℕ, zero, suc, ◌+◌, ◌<◌, ◌≤◌, ◌≢◌, ◌⊎◌, List, [], ◌∷◌, ◌++◌, length, get_or, sym, refl, ap, ◌∙◌, subst, inl, inr, ⊎_elim, arith}
+use Rattle.std.proofs.Common.{◌≡◌, ℕ, zero, suc, ◌<◌, List, [], ◌∷◌, length, get_or, sym, refl, inl, inr, arith}
 use Rattle.model.specs.Clauses.{Clause, Member, Each}
-use Rattle.model.specs.Search.{First, here, later, NoneOf}
+use Rattle.model.specs.Search.{First, here, later}
 
 pub member_place : {A : Type 0} (x d : A) (xs : List A) → Member x xs → (i : ℕ) × (i < length xs) × (get_or xs i d ≡ x)
 member_place x d [] h = absurd h

@@ -1,9 +1,9 @@
 -- Resolution is sound: no valuation satisfies rules that an argument refutes.
-use Rattle.std.proofs.Common.{◌≡◌, ℕ, zero, suc, Bool, true, false, not, ◌≢◌, ◌⊎◌, List, [], ◌∷◌, ◌++◌, ℤ, pos, negsuc, sym, refl, ap, ◌∙◌, subst, inl, inr, ⊎_elim}
+use Rattle.std.proofs.Common.{◌≡◌, ℕ, zero, suc, true, List, [], ◌∷◌, inl, inr}
 use lib.IntN.{ℤ_discrete}
 use Rattle.std.proofs.lemmas.Bool.{both_ways, not-true, false≢true}
-use Rattle.model.specs.Clauses.{Clause, on, off, ◌∈◌, Valuation, true_at, Satisfies, Each, Model, Resolvent}
-use Rattle.model.specs.Search.{Reference, R, S, Step}
+use Rattle.model.specs.Clauses.{Clause, on, off, Valuation, true_at, Satisfies, Model, Resolvent}
+use Rattle.model.specs.Search.{Reference, Step}
 use Rattle.model.specs.Arguments.{Named, rule, step, Derives, none, one_more, Argument}
 use Rattle.model.proofs.Lists.{each_append, each_at}
 

@@ -1,8 +1,8 @@
 -- The literals of a failing clause are literals of the rules; so at the empty setting it has none.
-use Rattle.std.proofs.Common.{◌≡◌, ℕ, zero, suc, ◌+◌, ◌<◌, ◌≤◌, ◌≢◌, ◌⊎◌, List, [], ◌∷◌, ◌++◌, length, get_or, set, replicate, ℤ, pos, negsuc, sym, refl, ap, ◌∙◌, subst, inl, inr, ⊎_elim, arith}
+use Rattle.std.proofs.Common.{◌≡◌, ℕ, zero, suc, ◌≢◌, List, [], ◌∷◌, get_or, ℤ, pos, negsuc, refl, inl, ⊎_elim, arith}
 use lib.ListN.{get_or-replicate}
-use Rattle.model.specs.Clauses.{Clause, on, off, opposite, ◌∈◌, Each, Within, Over}
-use Rattle.model.specs.Search.{Setting, value, flipped, AllFalse, First, here, later, Reference, Step, Outcome, fits, fails, Joined, Back, passes, joins, Branch, conflict, forced, satisfied, on_ends, then_off}
+use Rattle.model.specs.Clauses.{Clause, opposite, ◌∈◌, Each, Within, Over}
+use Rattle.model.specs.Search.{Setting, value, AllFalse, First, here, later, Reference, Step, Outcome, fits, fails, Back, passes, joins, Branch, conflict, forced, satisfied, on_ends, then_off}
 use Rattle.model.specs.Arguments.{unset}
 use Rattle.model.proofs.Values.{two_flipped}
 use Rattle.model.proofs.Failing.{joined_from, failing}

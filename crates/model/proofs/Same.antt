@@ -1,8 +1,8 @@
 -- The search has one course.
-use Rattle.std.proofs.Common.{◌≡◌, ℕ, zero, suc, ◌+◌, ◌≢◌, ◌⊎◌, List, [], ◌∷◌, ◌++◌, length, ℤ, pos, negsuc, sym, refl, ap, ◌∙◌, subst, ap₂, subst₂, inl, inr, ⊎_elim, arith}
+use Rattle.std.proofs.Common.{◌≡◌, ℕ, suc, ◌+◌, List, [], ◌∷◌, ◌++◌, length, ℤ, pos, negsuc, sym, refl, ap, subst, ap₂, subst₂, inl, inr, arith}
 use lib.IntN.{ℤ_discrete}
-use Rattle.model.specs.Clauses.{Clause, on, off, opposite, ◌∈◌, Each, Resolvent, LeftOver}
-use Rattle.model.specs.Search.{Setting, entry, value, make_true, AllFalse, UnitOn, SomeUnit, SomeTrue, First, here, later, NoneOf, Chosen, this, next, Undecided, Reference, R, S, step_ref, Step, Outcome, fits, fails, made, Joined, Lacks, Back, passes, joins, Branch, conflict, forced, satisfied, on_ends, then_off}
+use Rattle.model.specs.Clauses.{Clause, on, off, opposite, ◌∈◌, Resolvent, LeftOver}
+use Rattle.model.specs.Search.{Setting, value, make_true, AllFalse, UnitOn, SomeTrue, First, here, later, NoneOf, Chosen, this, next, Reference, R, step_ref, Step, Outcome, fits, fails, made, Joined, Lacks, Back, passes, joins, Branch, conflict, forced, satisfied, on_ends, then_off}
 use Rattle.model.specs.Arguments.{SameLiterals, Alike}
 use Rattle.model.proofs.Failing.{first_holds}
 use Rattle.model.proofs.Root.{first_each}

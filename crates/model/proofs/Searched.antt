@@ -1,5 +1,5 @@
 -- What the whole search comes to.
-use Rattle.std.proofs.Common.{◌≡◌, ℕ, ◌+◌, ◌^◌, ◌<◌, ◌≤◌, List, [], length, refl, subst, arith}
+use Rattle.std.proofs.Common.{[], refl, subst, arith}
 use Rattle.model.specs.Clauses.{Clause}
 use Rattle.model.specs.Arguments.{Named, StepsArgue, FewSteps}
 use Rattle.model.proofs.Root.{root_empty}

@@ -1,7 +1,7 @@
 -- The tests on literals and clauses say what they should.
-use Rattle.std.proofs.Common.{◌≡◌, ℕ, zero, suc, ◌<◌, ◌≤◌, Bool, true, false, cond, eqb, ltb, leb, ◌⊎◌, List, [], ◌∷◌, ◌++◌, ℤ, pos, negsuc, sym, refl, ap, ◌∙◌, inl, inr, arith, lt-ltb, le-leb}
+use Rattle.std.proofs.Common.{◌≡◌, ℕ, Bool, true, false, cond, ltb, leb, [], ◌∷◌, ◌++◌, ℤ, pos, negsuc, sym, refl, ap, ◌∙◌, inl, inr, lt-ltb, le-leb}
 use Rattle.std.proofs.lemmas.Bool.{eq-eqb, eqb-true, ltb-true, leb-true, false≢true}
-use Rattle.model.specs.Clauses.{Clause, variable, opposite, ◌∈◌, Within, same, has}
+use Rattle.model.specs.Clauses.{Clause, variable, ◌∈◌, Within, same, has}
 use Rattle.model.specs.Machine.{names}
 
 pub same_refl : (t : ℤ) → same t t ≡ true

@@ -1,8 +1,8 @@
 -- The search ends. The proof is by tests that compute, so that at clauses that are written out it is the course itself.
-use Rattle.std.proofs.Common.{◌≡◌, ℕ, zero, suc, ◌+◌, ◌<◌, ◌≤◌, Bool, true, false, eqb, ◌≢◌, ◌⊎◌, List, [], ◌∷◌, ◌++◌, length, get_or, set, ℤ, pos, negsuc, sym, refl, ap, ◌∙◌, subst, inl, inr, ⊎_elim, arith, eq-eqb, eqb-true}
+use Rattle.std.proofs.Common.{◌≡◌, ℕ, zero, suc, ◌+◌, ◌<◌, ◌≤◌, Bool, true, false, eqb, ◌≢◌, ◌⊎◌, List, [], ◌∷◌, ◌++◌, length, get_or, set, ℤ, pos, negsuc, sym, refl, ◌∙◌, subst, inl, inr, ⊎_elim, arith, eq-eqb, eqb-true}
 use borrow.Author.Tests.{clash}
-use Rattle.model.specs.Clauses.{Clause, on, off, opposite, variable, ◌∈◌, Member, Each, Within, Over, Resolvent, LeftOver, same}
-use Rattle.model.specs.Search.{Setting, entry, value, flipped, make_true, AllFalse, UnitOn, SomeUnit, SomeTrue, First, here, later, NoneOf, Chosen, this, next, Undecided, Reference, R, S, step_ref, Step, Outcome, fits, fails, made, Joined, Lacks, Back, passes, joins, Branch, conflict, forced, satisfied, on_ends, then_off}
+use Rattle.model.specs.Clauses.{Clause, on, off, opposite, variable, ◌∈◌, Member, Each, Within, Over, Resolvent, same}
+use Rattle.model.specs.Search.{Setting, entry, value, flipped, make_true, AllFalse, SomeUnit, SomeTrue, First, here, later, NoneOf, Chosen, this, next, Undecided, Reference, R, step_ref, Step, Outcome, fits, fails, made, Joined, Back, passes, joins, Branch, conflict, forced, satisfied, on_ends, then_off}
 use Rattle.model.specs.Arguments.{unset, Ends}
 use Rattle.model.proofs.Values.{off_two, flipped_two}
 use Rattle.model.proofs.Failing.{first_holds, chosen_unset}

@@ -1,8 +1,8 @@
 -- What a literal's value is after one is made true.
-use Rattle.std.proofs.Common.{◌≡◌, ℕ, zero, suc, ◌+◌, ◌<◌, ◌≤◌, ◌≢◌, ◌⊎◌, List, [], ◌∷◌, length, get_or, set, ℤ, pos, negsuc, sym, refl, ap, ◌∙◌, subst, inl, inr, ⊎_elim, arith}
+use Rattle.std.proofs.Common.{◌≡◌, ℕ, zero, suc, ◌<◌, ◌≤◌, ◌≢◌, length, get_or, set, ℤ, pos, negsuc, refl, ap, ⊎_elim, arith}
 use Rattle.std.proofs.lemmas.List.{get_or-set_same, get_or-set_other, get_or_past}
 use Rattle.std.proofs.lemmas.Bool.{cases_lt, cases_eq}
-use Rattle.model.specs.Clauses.{on, off, opposite}
+use Rattle.model.specs.Clauses.{off, opposite}
 use Rattle.model.specs.Search.{Setting, entry, flipped, value, make_true}
 
 pub flipped_two : (b : ℕ) → flipped b ≡ 2 → b ≡ 2

@@ -1,12 +1,12 @@
 -- What is known of the way to a setting, and how a branch from there goes on to the whole search.
-use Rattle.std.proofs.Common.{◌≡◌, ℕ, zero, suc, ◌+◌, ◌-◌, ◌<◌, ◌≤◌, ◌≢◌, List, [], ◌∷◌, ◌++◌, length, get_or, set, replicate, ℤ, pos, negsuc, sym, refl, ap, ◌∙◌, subst, append_assoc, append-nil, arith, length-append}
+use Rattle.std.proofs.Common.{◌≡◌, ℕ, zero, suc, ◌+◌, ◌<◌, ◌≤◌, List, [], ◌++◌, length, get_or, set, ℤ, pos, negsuc, sym, refl, ap, ◌∙◌, subst, append_assoc, append-nil, arith, length-append}
 use Rattle.std.proofs.lemmas.List.{length-set, length-replicate, set-set, set-get_or}
 use Rattle.model.specs.Clauses.{Clause, on, off, opposite, variable, Within, Over, Member, ◌∈◌}
-use Rattle.model.specs.Search.{Setting, Reference, R, Step, AllFalse, UnitOn, SomeUnit, First, NoneOf, Undecided, Outcome, fits, fails, Chosen, entry, put_entry, value, make_true, Lacks, Back, passes, Branch, conflict, forced, satisfied, on_ends, then_off}
+use Rattle.model.specs.Search.{Setting, Reference, R, Step, AllFalse, UnitOn, SomeUnit, First, NoneOf, Undecided, Outcome, fits, fails, Chosen, put_entry, value, make_true, Lacks, passes, Branch, forced, on_ends, then_off}
 use Rattle.model.specs.Arguments.{unset}
-use Rattle.model.specs.Way.{Entry, by_clause, on_side, off_side, Way, root, forced_here, on_here, off_here}
+use Rattle.model.specs.Way.{Entry, Way, root, forced_here, on_here, off_here}
 use Rattle.model.proofs.Values.{flipped_two, in_range, off_two}
-use Rattle.model.proofs.Failing.{first_holds, chosen_unset}
+use Rattle.model.proofs.Failing.{chosen_unset}
 use Rattle.model.proofs.Bound.{vacant, vacant_true, vacant_unset}
 use Rattle.model.proofs.Total.{Low, low_true, low_unset, member?, back_exists, ends_from}
 

@@ -1,13 +1,13 @@
 -- What an answer of settling is worth.
-use Rattle.std.proofs.Common.{◌≡◌, ℕ, zero, suc, ◌≤◌, Bool, true, false, cond, eqb, List, [], ◌∷◌, ◌++◌, map, length, get_or, take, drop, ℤ, pos, negsuc, Some, None, Ok, Err, Option, Result, sym, refl, ap, ◌∙◌, subst, arith, length-set}
+use Rattle.std.proofs.Common.{◌≡◌, ℕ, zero, suc, Bool, true, false, cond, eqb, List, [], map, length, get_or, take, drop, ℤ, pos, negsuc, Some, None, Ok, Err, Option, Result, sym, refl, ap, ◌∙◌, subst, arith}
 use mathlib.Core.Path.{fun_ext}
 use lib.ListN.{length-replicate, length-map, get_or-map}
-use Rattle.std.proofs.lemmas.List.{take_at, drop_at}
+use Rattle.std.proofs.lemmas.List.{take_at}
 use Rattle.model.specs.declared.Answer.{Answer}
 use Rattle.model.specs.declared.Answer.TheVariants.{Fits, Cannot}
 use Rattle.model.specs.declared.Decline.{Decline}
-use Rattle.model.specs.Clauses.{Clause, Valuation, Satisfies, Model, Over, Resolvent, off}
-use Rattle.model.specs.Search.{Setting, entry, make_true, First, Reference, Step, Outcome, fits, fails, Joined, Back, passes, joins, Branch, conflict, forced, satisfied, on_ends, then_off}
+use Rattle.model.specs.Clauses.{Clause, Valuation, Satisfies, Model, Over, off}
+use Rattle.model.specs.Search.{Setting, Reference, Step, Outcome, fits, fails, Joined, Back, passes, joins, Branch, conflict, forced, satisfied, on_ends, then_off}
 use Rattle.model.specs.Arguments.{unset, reads}
 use Rattle.model.specs.Machine.{Machine}
 use Rattle.model.specs.Settling.{OrderMeaning, RecordMeaning, takes_all, byte, written, told, Settled, Worth}

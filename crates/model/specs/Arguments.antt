@@ -1,5 +1,5 @@
 -- Arguments (resolution refutations), and the theorems about the search.
-use Rattle.std.specs.Prelude.{◌≡◌, ℕ, zero, suc, ◌+◌, ◌^◌, ◌<◌, ◌≤◌, Bool, List, [], ◌∷◌, ◌++◌, length, replicate, ℤ, ◌==◌}
+use Rattle.std.specs.Prelude.{◌≡◌, ℕ, suc, ◌^◌, ◌<◌, ◌≤◌, List, [], ◌∷◌, ◌++◌, length, replicate, ℤ, ◌==◌}
 use Rattle.model.specs.Clauses.{Clause, Valuation, Model, Over, Resolvent, ◌∈◌, Member}
 use Rattle.model.specs.Search.{Reference, R, S, Step, Setting, AllFalse, Branch, Outcome, fits, fails, entry}
 

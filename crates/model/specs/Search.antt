@@ -1,5 +1,5 @@
 -- The search, as a relation: at a setting, which steps a branch makes and how it ends.
-use Rattle.std.specs.Prelude.{◌≡◌, ℕ, zero, suc, ◌+◌, min, ◌≢◌, ◌⊎◌, List, [], ◌∷◌, ◌++◌, length, set, ℤ, pos, negsuc, slice_index, slice_set}
+use Rattle.std.specs.Prelude.{◌≡◌, ℕ, zero, suc, ◌+◌, min, ◌≢◌, List, [], ◌∷◌, ◌++◌, length, ℤ, pos, negsuc, slice_index, slice_set}
 pub use Rattle.model.specs.declared.Reference.{Reference}
 pub use Rattle.model.specs.declared.Reference.TheVariants.{R, S}
 pub use Rattle.model.specs.declared.Step.{Step}

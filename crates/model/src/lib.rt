@@ -1,4 +1,6 @@
 // The vocabulary of the library: what every crate above names, and, in specs/, what it all means.
+#![tactic(auto)]
+
 pub mod declines;
 pub mod faults;
 pub mod theorems;

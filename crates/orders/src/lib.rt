@@ -1,4 +1,6 @@
 // Orders: which variable the search chooses next.
+#![tactic(auto)]
+
 ghost use Rattle.std.specs.Prelude.{◌≡◌, ◌==◌};
 ghost use Rattle.model.specs.Search.{entry};
 ghost use Rattle.model.specs.Settling.{OrderMeaning, Lists, Chooses};

@@ -1,5 +1,7 @@
 // Settles the rule texts that its arguments name, without keeping an argument, so that its length has no limit. The stored output was taken from other
 // solvers: see tools/published.
+#![tactic(auto)]
+
 use model::Answer;
 use orders::by_number::ByNumber;
 use records::silent::Silent;

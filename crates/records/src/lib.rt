@@ -1,4 +1,6 @@
 // Records: where the search notes its steps.
+#![tactic(auto)]
+
 ghost use Rattle.std.specs.Prelude.{◌≡◌, length};
 ghost use Rattle.model.specs.Settling.{RecordMeaning, Keeps, Puts};
 ghost use Rattle.records.specs.Kept.{step_at};

@@ -68,7 +68,7 @@ fn a_line(rt: HostRuntime) {
     let mut bytes = [0; 28];
     let mut lines = Lines::new(&mut bytes);
     assert!(rt; put_two(&mut lines, first(), second()) == Err(Decline::RecordFull));
-    assert!(rt; lines.text() == b"R0000000003 S4294967295 200\n");
+    assert!(rt; lines.text() == b"R0000000003 S4294967295 200\n".as_slice());
     assert!(rt; lines.look(1) == Some(first()));
 }
 
@@ -78,7 +78,7 @@ fn too_short_for_a_line(rt: HostRuntime) {
     let mut lines = Lines::new(&mut bytes);
     assert!(rt; lines.left() == Some(0));
     assert!(rt; lines.put(first()) == Err(Decline::RecordFull));
-    assert!(rt; lines.text() == b"");
+    assert!(rt; lines.text() == b"".as_slice());
 }
 
 #[test]

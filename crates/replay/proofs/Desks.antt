@@ -1,5 +1,5 @@
 -- A slip or a record among others: what a call at its place leaves, as an event of the file's life.
-use Rattle.std.proofs.Common.{◌≡◌, ℕ, zero, suc, ◌+◌, ◌<◌, ◌≤◌, ◌≢◌, ◌⊎◌, List, [], ◌∷◌, ◌++◌, map, length, get_or, take, set, ℤ, Some, None, Option, Result, sym, refl, ap, ◌∙◌, subst, inl, inr, ⊎_elim, append_assoc, append-nil, arith, Bor}
+use Rattle.std.proofs.Common.{◌≡◌, ℕ, zero, suc, ◌+◌, ◌<◌, ◌≤◌, ◌≢◌, List, [], ◌∷◌, ◌++◌, map, length, get_or, take, set, ℤ, Some, Result, sym, refl, ap, ◌∙◌, subst, ⊎_elim, append_assoc, append-nil, arith, Bor}
 use mathlib.Core.Path.{fun_ext}
 use lib.ListN.{length-map}
 use Rattle.std.specs.List.{slice_get}
@@ -11,7 +11,7 @@ use Rattle.model.specs.declared.ReadFault.{ReadFault}
 use Rattle.model.specs.Machine.{Machine, SlipState, Enters, Opens, Closes}
 use Rattle.model.specs.Reading.{Reads}
 use Rattle.model.specs.Settling.{OrderMeaning, Lists, RecordMeaning, Keeps, Settles}
-use Rattle.lives.specs.Lives.{World, with_slip, Event, Run, rests, goes, enters, reads_in, opens, closes, settles, open_trial, close_trial, settle, trial_said, settle_said}
+use Rattle.lives.specs.Lives.{with_slip, Event, Run, rests, goes, enters, reads_in, opens, closes, settles, open_trial, close_trial, settle, trial_said, settle_said}
 use Rattle.lives.proofs.Traceless.{run_join}
 use Rattle.station.specs.declared.trials.Slip.{Slip}
 use Rattle.station.specs.Views.{slip_state}

@@ -1,11 +1,11 @@
 -- Calls without slips only add clauses, so that the trial around them can be closed and leaves the file as it was.
-use Rattle.std.proofs.Common.{◌≡◌, ℕ, ◌+◌, ◌<◌, List, [], ◌∷◌, ◌++◌, length, Some, None, Ok, Err, Result, sym, refl, ap, ◌∙◌, subst, arith}
+use Rattle.std.proofs.Common.{◌≡◌, ℕ, List, [], ◌++◌, length, None, Ok, Err, Result, sym, refl, ◌∙◌, subst, arith}
 use Rattle.model.specs.declared.Decline.{Decline}
-use Rattle.model.specs.Machine.{Machine, SlipState, blank, filled, open_refusal, opened, Opens, close_refusal, closed, Closes}
+use Rattle.model.specs.Machine.{Machine, SlipState, blank, open_refusal, opened, Opens, close_refusal, Closes}
 use Rattle.model.specs.Settling.{OrderMeaning, RecordMeaning}
 use Rattle.model.proofs.Calls.{open_allowed}
 use Rattle.model.proofs.Trials.{Longer, same_longer, entry_longer, trial_closes, trial_leaves}
-use Rattle.lives.specs.Lives.{World, Event, Run, rests, goes, Happens, enters, reads_in, settles}
+use Rattle.lives.specs.Lives.{World, Event, Run, rests, goes, enters, reads_in, settles}
 use Rattle.lives.proofs.Traceless.{longer_more, reads_longer}
 use Rattle.station.specs.declared.StationFile.{StationFile}
 use Rattle.station.specs.declared.trials.Slip.{Slip}

@@ -8,9 +8,8 @@ use Rattle.model.specs.declared.ReadFault.{ReadFault}
 use Rattle.model.specs.Machine.{Machine, SlipState, blank}
 use Rattle.model.specs.Settling.{OrderMeaning, RecordMeaning}
 use Rattle.lives.specs.Lives.{World, Event, Run, enter, read, open_trial, close_trial, settle, enter_said, read_said, trial_said, settle_said}
-use Rattle.station.specs.declared.StationFile.{StationFile}
 use Rattle.station.specs.declared.trials.Slip.{Slip}
-use Rattle.station.specs.Views.{machine, slip_state}
+use Rattle.station.specs.Views.{slip_state}
 use Rattle.replay.specs.declared.Call.{Call}
 use Rattle.replay.specs.declared.Call.TheVariants.{Enter, Read, Open, Close, Settle}
 use Rattle.replay.specs.declared.Reply.{Reply}

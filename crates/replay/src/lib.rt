@@ -1,4 +1,6 @@
 // Replaying the life of a file: a list of calls in, the list of their replies out.
+#![tactic(auto)]
+
 use model::{Answer, Decline, ReadFault};
 use std::alloc::AllocError;
 

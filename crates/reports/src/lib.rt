@@ -1,5 +1,7 @@
 // What `fitting` prints of a text. The words are the planners': option, rule and fit-out for variable, clause and valuation. The layout is in
 // docs/fitting.md.
+#![tactic(auto)]
+
 mod places;
 #[cfg(test)]
 mod tests;

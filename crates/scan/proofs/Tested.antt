@@ -1,12 +1,12 @@
 -- The test of a clause with one literal more.
-use Rattle.std.proofs.Common.{◌≡◌, ℕ, ◌≢◌, ◌⊎◌, List, [], ◌∷◌, ◌++◌, ℤ, pos, negsuc, sym, refl, ap, ◌∙◌, subst, inl, inr, arith}
+use Rattle.std.proofs.Common.{◌≡◌, ◌≢◌, [], ◌∷◌, ◌++◌, ℤ, sym, ap, ◌∙◌, subst, inl, inr, arith}
 use Rattle.model.specs.Clauses.{Clause, ◌∈◌}
 use Rattle.model.specs.Search.{Setting, value, AllFalse, UnitOn, SomeUnit, SomeTrue}
 use Rattle.scan.specs.declared.Test.{Test}
 use Rattle.scan.specs.declared.Test.TheVariants.{AllFalse as all-false, Unit as unit, SomeTrue as some-true, Open as neither}
 use Rattle.scan.specs.Tests.{Tested, SomeUnset}
 use Rattle.clauses.specs.Sets.{code}
-use Rattle.model.proofs.Members.{in_left, in_right, in_last, in_pushed}
+use Rattle.model.proofs.Members.{in_left, in_last, in_pushed}
 
 module _ (σ : Setting) (C : Clause) (t : ℤ) where
   pub true_more : SomeTrue σ C → SomeTrue σ (C ++ t ∷ [])

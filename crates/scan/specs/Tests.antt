@@ -1,5 +1,5 @@
 -- How clauses stand at a setting.
-use Rattle.std.specs.Prelude.{◌≡◌, ℕ, ◌≤◌, List, [], ◌∷◌, ◌++◌, length, ℤ, slice_index}
+use Rattle.std.specs.Prelude.{◌≡◌, ℕ, ◌≤◌, List, ℤ, slice_index}
 use Rattle.model.specs.Clauses.{Clause, ◌∈◌, Within, Each}
 use Rattle.model.specs.Search.{Setting, value, AllFalse, UnitOn, SomeUnit, SomeTrue, First, NoneOf, Undecided}
 use Rattle.clauses.specs.Sets.{code}

@@ -1,4 +1,6 @@
 // How the clauses of a file stand at a setting: the test of one clause, and the scan of them all.
+#![tactic(auto)]
+
 pub mod scans;
 pub mod tests;
 

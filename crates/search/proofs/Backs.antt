@@ -1,5 +1,5 @@
 -- A failing clause past one literal, as the relation of the search has it.
-use Rattle.std.proofs.Common.{◌≡◌, ℕ, zero, suc, ◌+◌, min, Bool, true, false, ◌⊎◌, List, [], ◌∷◌, ◌++◌, length, ℤ, Some, Ok, Err, sym, refl, ap, ◌∙◌, subst, inl, inr, ⊎_elim, append-nil, arith}
+use Rattle.std.proofs.Common.{◌≡◌, ℕ, suc, min, List, [], ◌∷◌, ◌++◌, length, ℤ, Some, Ok, Err, sym, ap, ◌∙◌, subst, ⊎_elim, append-nil, arith}
 use Rattle.std.proofs.lemmas.Bool.{false≢true}
 use Rattle.model.specs.declared.Step.{Step}
 use Rattle.model.specs.declared.Reference.{Reference}
@@ -7,10 +7,10 @@ use Rattle.model.specs.declared.Reference.TheVariants.{S}
 use Rattle.model.specs.declared.Decline.{Decline}
 use Rattle.model.specs.declared.Decline.TheVariants.{RecordFull}
 use Rattle.model.specs.Clauses.{Clause, opposite, ◌∈◌}
-use Rattle.model.specs.Search.{Outcome, fails, made, step_ref, Joined, Back, passes, joins}
+use Rattle.model.specs.Search.{Outcome, fails, made, step_ref, Back, passes, joins}
 use Rattle.model.specs.Settling.{RecordMeaning, noted}
 use Rattle.model.proofs.Total.{joined_exists}
-use Rattle.clauses.specs.Sets.{member, Holds}
+use Rattle.clauses.specs.Sets.{Holds}
 use Rattle.clauses.proofs.Members.{holds_joined}
 use Rattle.search.specs.declared.Frame.{Frame}
 use Rattle.search.specs.States.{Run, Logged, Passes, Joins, Past}

@@ -1,16 +1,16 @@
 -- A failed search with its last setting taken back.
-use Rattle.std.proofs.Common.{◌≡◌, ℕ, zero, suc, ◌+◌, ◌-◌, ◌<◌, ◌≤◌, Bool, true, false, List, [], ◌∷◌, ◌++◌, length, set, ℤ, pos, negsuc, Some, Ok, Err, Result, sym, refl, ap, ◌∙◌, subst, append_assoc, arith, length-append}
+use Rattle.std.proofs.Common.{◌≡◌, ℕ, ◌+◌, ◌<◌, ◌≤◌, List, [], ◌∷◌, ◌++◌, length, set, ℤ, Some, Ok, Err, Result, sym, refl, ap, ◌∙◌, subst, append_assoc, arith, length-append}
 use Rattle.std.proofs.lemmas.Bool.{false≢true}
 use Rattle.model.specs.declared.Step.{Step}
 use Rattle.model.specs.declared.Reference.{Reference}
 use Rattle.model.specs.declared.Reference.TheVariants.{R}
 use Rattle.model.specs.declared.Decline.{Decline}
 use Rattle.model.specs.declared.Decline.TheVariants.{RecordFull}
-use Rattle.model.specs.Clauses.{Clause, on, off, opposite, variable, Within, ◌∈◌}
-use Rattle.model.specs.Search.{Setting, value, make_true, UnitOn, SomeUnit, First, fails, Outcome, Back, Branch, forced, on_ends, then_off}
+use Rattle.model.specs.Clauses.{Clause, on, off, opposite, Within, ◌∈◌}
+use Rattle.model.specs.Search.{Setting, make_true, fails, Outcome, Back, Branch, forced, on_ends, then_off}
 use Rattle.model.specs.Machine.{Machine, clause_at}
 use Rattle.model.specs.Settling.{RecordMeaning, noted}
-use Rattle.model.specs.Way.{Entry, by_clause, on_side, off_side, Way, off_here}
+use Rattle.model.specs.Way.{off_side, Way, off_here}
 use Rattle.model.proofs.Values.{off_two}
 use Rattle.model.proofs.Failing.{chosen_unset}
 use Rattle.model.proofs.Numbered.{first_numbered}
@@ -24,8 +24,8 @@ use Rattle.search.specs.declared.Mark.{Mark}
 use Rattle.search.specs.declared.Frame.{Frame}
 use Rattle.search.specs.declared.Turn.{Turn}
 use Rattle.search.specs.declared.Turn.TheVariants.{Failing, Turned}
-use Rattle.search.specs.States.{Position, Run, Held, Logged, Going, Stuck, Halted, Past, AtChoice, Stepped, heavy, weight}
-use Rattle.search.proofs.Backs.{Came, Refused, came, refused}
+use Rattle.search.specs.States.{Position, Run, Held, Logged, Going, Stuck, Halted, Past, AtChoice, Stepped, heavy}
+use Rattle.search.proofs.Backs.{came, refused}
 use Rattle.search.proofs.Views.{LastOff, unset_again, last_clause, last_on, last_off, held_marks, held_frames, ends_alike}
 use Rattle.search.proofs.Weights.{lighter, turned_weight}
 

@@ -1,19 +1,17 @@
 -- The search with one setting more, and its ends.
-use Rattle.std.proofs.Common.{◌≡◌, ℕ, zero, suc, ◌+◌, ◌-◌, ◌<◌, ◌≤◌, ◌≢◌, ◌⊎◌, List, [], ◌∷◌, ◌++◌, length, get_or, replicate, ℤ, pos, negsuc, Some, Ok, Err, Result, sym, refl, ap, ◌∙◌, subst, inl, inr, ⊎_elim, append_assoc, append-nil, arith, length-append}
+use Rattle.std.proofs.Common.{◌≡◌, ℕ, zero, suc, ◌<◌, ◌≤◌, ◌≢◌, ◌⊎◌, List, [], ◌∷◌, ◌++◌, length, get_or, ℤ, sym, refl, ap, ◌∙◌, subst, inl, inr, append-nil, arith}
 use Rattle.model.specs.declared.Step.{Step}
 use Rattle.model.specs.declared.Reference.{Reference}
 use Rattle.model.specs.declared.Reference.TheVariants.{R}
-use Rattle.model.specs.declared.Decline.{Decline}
-use Rattle.model.specs.declared.Answer.{Answer}
-use Rattle.model.specs.Clauses.{Clause, on, variable, Member, Each, Within, Over}
-use Rattle.model.specs.Search.{Setting, entry, value, make_true, AllFalse, SomeTrue, First, Chosen, this, next, Undecided, Outcome, fits, fails, Branch, conflict, satisfied}
+use Rattle.model.specs.Clauses.{Clause, on, variable, Member, Each, Over}
+use Rattle.model.specs.Search.{Setting, entry, value, make_true, AllFalse, SomeTrue, First, Chosen, this, next, Undecided, fits, fails, Branch, conflict, satisfied}
 use Rattle.model.specs.Arguments.{unset}
 use Rattle.model.specs.Machine.{Machine}
 use Rattle.model.specs.Settling.{RecordMeaning, OrderMeaning, Lists}
-use Rattle.model.specs.Way.{Entry, by_clause, on_side, off_side, Way, root, forced_here, on_here}
+use Rattle.model.specs.Way.{Entry, by_clause, on_side, Way, root, forced_here, on_here}
 use Rattle.model.proofs.Failing.{chosen_unset}
-use Rattle.model.proofs.Bound.{vacant, vacant_true}
-use Rattle.model.proofs.Total.{Low, unset_literal, entry_two, chosen_or_none}
+use Rattle.model.proofs.Bound.{vacant_true}
+use Rattle.model.proofs.Total.{unset_literal, entry_two, chosen_or_none}
 use Rattle.model.proofs.Ways.{way_length, way_low, way_vacant, fits_out, unset_within}
 use Rattle.clauses.specs.declared.Literal.{Literal}
 use Rattle.clauses.specs.Sets.{code, Holds}
@@ -23,8 +21,7 @@ use Rattle.scan.specs.Tests.{Scanned}
 use Rattle.search.specs.declared.Why.TheVariants.{Clause as Forcing, On}
 use Rattle.search.specs.declared.Mark.{Mark}
 use Rattle.search.specs.declared.Frame.{Frame}
-use Rattle.search.specs.declared.Turn.TheVariants.{Failing, Turned}
-use Rattle.search.specs.States.{Position, Run, Held, Logged, Going, Stuck, Halted, Ended, weight}
+use Rattle.search.specs.States.{Position, Run, Logged, Going, Stuck, Ended, weight}
 use Rattle.search.proofs.Views.{held_marks}
 use Rattle.search.proofs.Weights.{pushed_weight}
 use Rattle.search.proofs.Logs.{logged_none}

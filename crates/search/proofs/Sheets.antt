@@ -1,5 +1,5 @@
 -- The sheet, and what settling says of the search's end.
-use Rattle.std.proofs.Common.{◌≡◌, ℕ, zero, suc, ◌+◌, ◌-◌, ◌<◌, ◌≤◌, Bool, true, false, cond, not, eqb, leb, List, [], ◌∷◌, ◌++◌, map, length, get_or, take, drop, set, replicate, Some, None, Ok, Err, Option, Result, sym, refl, ap, ◌∙◌, subst, append_assoc, add-one, arith, length-append, le-leb, leb-true}
+use Rattle.std.proofs.Common.{◌≡◌, ℕ, zero, suc, ◌+◌, ◌-◌, ◌<◌, ◌≤◌, Bool, true, false, cond, eqb, leb, List, [], ◌∷◌, ◌++◌, map, length, get_or, take, drop, set, replicate, Some, None, Ok, Err, Option, Result, sym, refl, ap, ◌∙◌, subst, append_assoc, add-one, arith, length-append, leb-true}
 use borrow.Author.Tests.{lt-leb}
 use Rattle.std.proofs.lemmas.Bool.{eqb-true, eq-eqb, not-false}
 use Rattle.model.proofs.Merging.{both}
@@ -10,7 +10,7 @@ use Rattle.model.specs.declared.Answer.TheVariants.{Fits, Cannot}
 use Rattle.model.specs.declared.Reference.{Reference}
 use Rattle.model.specs.declared.Decline.{Decline}
 use Rattle.model.specs.declared.Decline.TheVariants.{RecordFull}
-use Rattle.model.specs.Clauses.{Clause, Over, Member}
+use Rattle.model.specs.Clauses.{Clause, Over}
 use Rattle.model.specs.Search.{Setting, Branch, Outcome, fits, fails}
 use Rattle.model.specs.Arguments.{unset}
 use Rattle.model.specs.Machine.{Machine}

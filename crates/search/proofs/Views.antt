@@ -1,13 +1,11 @@
 -- The last entry of the trail, read off its mark, and a failed search with that setting taken back.
-use Rattle.std.proofs.Common.{◌≡◌, ℕ, zero, suc, ◌+◌, ◌-◌, ◌<◌, ◌≤◌, Bool, true, false, cond, List, [], ◌∷◌, ◌++◌, length, set, ℤ, pos, negsuc, sym, refl, ap, ◌∙◌, subst, append_assoc, arith, length-append}
+use Rattle.std.proofs.Common.{◌≡◌, ℕ, suc, ◌≤◌, Bool, true, false, cond, List, [], ◌∷◌, ◌++◌, length, set, ℤ, pos, negsuc, sym, refl, ap, ◌∙◌, subst, arith, length-append}
 use Rattle.model.specs.declared.Step.{Step}
 use Rattle.model.specs.declared.Reference.{Reference}
-use Rattle.model.specs.Clauses.{Clause, on, off, opposite, variable, Within, ◌∈◌}
+use Rattle.model.specs.Clauses.{Clause, on, off, variable, ◌∈◌}
 use Rattle.model.specs.Search.{Setting, put_entry, value, make_true, AllFalse, UnitOn, SomeUnit, First, NoneOf, Chosen, Undecided, fails, Branch}
-use Rattle.model.specs.Way.{Entry, by_clause, on_side, off_side, Way, root, forced_here, on_here, off_here}
-use Rattle.model.proofs.Values.{off_two}
-use Rattle.model.proofs.Failing.{chosen_unset}
-use Rattle.model.proofs.Ways.{clear_true, unset_within, way_length, way_vacant, length_true}
+use Rattle.model.specs.Way.{Entry, by_clause, on_side, off_side, Way, forced_here, on_here, off_here}
+use Rattle.model.proofs.Ways.{clear_true}
 use Rattle.clauses.specs.declared.Literal.{Literal}
 use Rattle.clauses.specs.Sets.{code, Holds}
 use Rattle.search.specs.declared.Why.{Why}

@@ -1,5 +1,5 @@
 -- What a trail weighs: a measure that falls with each turn of the search.
-use Rattle.std.proofs.Common.{◌≡◌, ℕ, zero, suc, ◌+◌, ◌-◌, ◌*◌, ◌^◌, ◌<◌, ◌≤◌, Bool, true, false, cond, List, [], ◌∷◌, ◌++◌, length, sym, refl, ap, ◌∙◌, subst, mul_comm, pow-suc, arith, length-append}
+use Rattle.std.proofs.Common.{◌≡◌, ℕ, zero, suc, ◌+◌, ◌-◌, ◌*◌, ◌^◌, ◌<◌, ◌≤◌, Bool, true, false, cond, List, [], ◌∷◌, ◌++◌, length, ap, ◌∙◌, mul_comm, pow-suc, arith, length-append}
 use Rattle.search.specs.declared.Why.{Why}
 use Rattle.search.specs.declared.Why.TheVariants.{On, Off}
 use Rattle.search.specs.declared.Mark.{Mark}

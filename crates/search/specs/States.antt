@@ -1,14 +1,13 @@
 -- Where the search stands, as the code holds it, and what one move of it makes of that.
-use Rattle.std.specs.Prelude.{◌≡◌, ℕ, zero, suc, ◌+◌, ◌-◌, ◌^◌, ◌<◌, ◌≤◌, min, Bool, true, false, cond, ◌⊎◌, List, [], ◌∷◌, ◌++◌, length, set, ℤ, Some, None, Ok, Err, Option, Result}
+use Rattle.std.specs.Prelude.{◌≡◌, ℕ, suc, ◌+◌, ◌-◌, ◌^◌, ◌<◌, ◌≤◌, min, Bool, true, false, cond, ◌⊎◌, List, [], ◌∷◌, ◌++◌, length, ℤ, Some, None, Ok, Err, Option, Result}
 use Rattle.model.specs.declared.Step.{Step}
-use Rattle.model.specs.declared.Reference.{Reference}
 use Rattle.model.specs.declared.Reference.TheVariants.{S}
 use Rattle.model.specs.declared.Answer.{Answer}
 use Rattle.model.specs.declared.Answer.TheVariants.{Fits as All-true, Cannot}
 use Rattle.model.specs.declared.Decline.{Decline}
 use Rattle.model.specs.declared.Decline.TheVariants.{RecordFull}
 use Rattle.model.specs.Clauses.{Clause, on, off, opposite}
-use Rattle.model.specs.Search.{Setting, make_true, Outcome, fits, fails, Branch, made, step_ref}
+use Rattle.model.specs.Search.{Setting, make_true, Outcome, fits, fails, Branch, made}
 use Rattle.model.specs.Arguments.{unset}
 use Rattle.model.specs.Machine.{Machine}
 use Rattle.model.specs.Settling.{RecordMeaning, noted, takes_all, Puts}

@@ -1,4 +1,6 @@
 // The search: clauses that force a literal, choices of the order, and resolution steps on the way back, by two stacks over lent memory.
+#![tactic(auto)]
+
 use clauses::{Literal, LiteralSet};
 use model::Reference;
 use station::StationFile;

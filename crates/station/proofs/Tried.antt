@@ -4,7 +4,7 @@ use Rattle.std.proofs.lemmas.List.{length_push}
 use Rattle.std.proofs.lemmas.Bool.{ne_eqb}
 use Rattle.std.specs.Result.{result_and}
 use Rattle.model.specs.declared.Decline.{Decline}
-use Rattle.model.specs.Machine.{Machine, SlipState, blank, Enters, Opens, Closes, opened, close_refusal, open_refusal, enter_refusal, closed}
+use Rattle.model.specs.Machine.{Machine, SlipState, blank, Enters, Opens, Closes, opened, close_refusal, open_refusal, enter_refusal}
 use Rattle.model.proofs.Calls.{open_allowed}
 use Rattle.model.proofs.Trials.{Longer, entry_longer, same_longer, trial_closes, trial_leaves}
 use Rattle.station.specs.Clients.{Tries, try_refusal, Spares, spare}

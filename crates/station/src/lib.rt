@@ -1,4 +1,6 @@
 // The station file: at most 1,000 clauses over at most 200 variables, and trials that can be taken back.
+#![tactic(auto)]
+
 ghost use Rattle.std.specs.Prelude.{◌≡◌, ◌≤◌, true, take};
 ghost use Rattle.model.specs.Machine.{every, names};
 ghost use Rattle.station.specs.Cuts.{rises, last_of};

@@ -1,4 +1,6 @@
 // Rule texts (DIMACS CNF): a reader that goes over a text without copying it, and what its tokens say.
+#![tactic(auto)]
+
 ghost use Rattle.std.specs.Prelude.{◌≤◌, length};
 
 pub mod laws;

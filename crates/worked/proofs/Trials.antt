@@ -1,7 +1,7 @@
 -- A trial that is opened and closed at once.
 use Rattle.std.proofs.Common.{◌≡◌, ℕ, ◌<◌, List, [], ◌∷◌, ◌++◌, length, Ok, refl, arith}
 use Rattle.model.specs.Machine.{fresh, blank, filled}
-use Rattle.lives.specs.Lives.{World, with_slip, Happens, opens, closes, open_trial, close_trial, trial_said, Event, Run, rests, goes, Trial}
+use Rattle.lives.specs.Lives.{World, with_slip, Happens, opens, closes, open_trial, close_trial, trial_said, Event, Run, rests}
 use Rattle.worked.specs.Trials.{beginning, SomeTrial}
 
 abbrev one_open : World

@@ -1,4 +1,6 @@
 // Cabinets worked by hand, shown of the meanings themselves.
+#![tactic(auto)]
+
 ghost use Rattle.worked.specs.Trials.{SomeTrial};
 ghost use Rattle.worked.specs.Worked.{WorkedCases};
 

@@ -1,4 +1,6 @@
 // Writing a station file as a rule text.
+#![tactic(auto)]
+
 ghost use Rattle.std.specs.Prelude.{◌≡◌, length};
 ghost use Rattle.model.specs.Writing.{text_of, Writes};
 ghost use Rattle.station.specs.Views.{machine};

@@ -1,4 +1,4 @@
-use Rattle.std.proofs.Common.{◌≡◌, Some, None, sym, ap, subst, inl, inr, arith}
+use Rattle.std.proofs.Common.{Some, None, sym, ap, subst, arith}
 use Rattle.model.specs.declared.Reference.{Reference}
 use Rattle.model.specs.Checking.{named}
 use Rattle.model.specs.Machine.{clause_at}
@@ -16,11 +16,11 @@ returns-then-k-eq0 c Ds h =
       | then-k-eq0-via-else-k-eq0+then-earlier-k w ↦ no_step c.args.earlier.now Ds c.in-S.k h w.if-earlier-k.true
     ])
 
-pub returns-in-ok-show : goal.returns-in-ok-show
-returns-in-ok-show c Ds h =
+pub returns-in_ok-show-in-R : goal.returns-in_ok-show-in-R
+returns-in_ok-show-in-R c Ds h =
     let f = c.args.file.now in
-    let C = c.in-ok-show.field-0.now in
-    let e = c.in-ok-show.ensures in
+    let C = c.in_ok-show-in-R.field-0.now in
+    let e = c.in_ok-show-in-R.ensures in
     subst (λ (r : Reference). Found (named (machine f).clauses Ds r) (Some c.of.result)) (sym c.in-R.is)
     (found_some (clause_at (machine f).clauses c.in-R.k) C c.of.result e (holds_shown f c.in-R.k C c.of.result e c.of.ensures))
 

@@ -14,10 +14,10 @@ returns c =
     let m = machine c.args.file.now in
     let t = text_of m in
     let before = c.args.buffer.now in
-    let k = c.text-length-length.ensures in
+    let k = c.text_length-length.ensures in
     let room : length t ≤ length before = omega arith in
     let e : c.fill.new.buffer ≡ t ++ drop (length t) before = c.fill.ensures ∙ written_whole t before room in
-    let front : take c.text-length-length.result c.fill.new.buffer ≡ t = ap (take c.text-length-length.result) e ∙ (ap (λ n. take n (t ++ drop (length t) before)) k ∙ take_at t (drop (length t) before) (length t) refl) in
+    let front : take c.text_length-length.result c.fill.new.buffer ≡ t = ap (take c.text_length-length.result) e ∙ (ap (λ n. take n (t ++ drop (length t) before)) k ∙ take_at t (drop (length t) before) (length t) refl) in
     record {
       writes = (rw (ne_eqb m.variables 0 (λ z. omega arith), le-ltb (length before) (length t) room), k, e);
       back = λ f l. ap (reading (fresh m.variables f)) front ∙ reads_back m f l;

@@ -1,11 +1,11 @@
-use Rattle.std.proofs.Common.{◌≡◌, ◌+◌, ◌<◌, Bool, true, cond, List, [], ◌∷◌, ◌++◌, get_or, take, ℤ, pos, sym, refl, ap, ◌∙◌, subst, w32, SFits, rules}
+use Rattle.std.proofs.Common.{◌≡◌, ◌+◌, ◌<◌, true, cond, [], ◌∷◌, ◌++◌, get_or, take, ℤ, pos, sym, ap, ◌∙◌, subst, w32, SFits, rules}
 use Rattle.std.proofs.lemmas.List.{take_all, take_more}
 use Rattle.std.proofs.lemmas.Int.{to_z-of_z}
 use Rattle.model.specs.Clauses.{Clause, same, Within}
 use Rattle.clauses.specs.Sets.{code, member, named}
 use Rattle.clauses.specs.declared.LiteralSet.{LiteralSet}
 use Rattle.clauses.proofs.Members.{code_within, named_more, named_other}
-use Rattle.clauses.proofs.LiteralSet.of.Goals.{in-Some, in-default}
+use Rattle.clauses.proofs.LiteralSet.of.Goals.{in-Some, in_default}
 use Rattle.clauses.proofs.LiteralSet.of.Goals as goal
 
 pub loop-number-preserved : goal.loop-number-preserved
@@ -23,10 +23,10 @@ loop-number-preserved c u =
           ap (λ (s : LiteralSet). member s u) w.set-is
           ∙ named_more c.loop-number.set w.insert.new.self (take i xs) t within (λ v. w.insert.ensures v ∙ ap (λ (x : ℤ). cond (same x v) true (member c.loop-number.set v)) e) c.loop-number.invariant u
           ∙ more)
-      | in-default w ↦ (
+      | in_default w ↦ (
           ap (λ (s : LiteralSet). member s u) w.set-is
           ∙ c.loop-number.invariant u
-          ∙ sym (named_other (take i xs) t (subst (λ (x : ℤ). Within 256 x → ⊥) (to_z-of_z w32 t f) w.in-default.ensures) u)
+          ∙ sym (named_other (take i xs) t (subst (λ (x : ℤ). Within 256 x → ⊥) (to_z-of_z w32 t f) w.in_default.ensures) u)
           ∙ more)
     ]
 

@@ -1,4 +1,4 @@
-use Rattle.std.proofs.Common.{◌≡◌, false, cond, ℤ, sym, ap, ◌∙◌}
+use Rattle.std.proofs.Common.{false, cond, ℤ, ap, ◌∙◌}
 use Rattle.model.specs.Clauses.{same}
 use Rattle.clauses.specs.Sets.{code, member}
 use Rattle.clauses.proofs.Members.{both_signs, united}

@@ -5,5 +5,5 @@ use Rattle.records.proofs.line.read.Goals as goal
 pub returns : goal.returns
 unfolding said
 returns c =
-    let v : c.read-number-variable.result % 256 ≡ number 0 (take 3 (drop 24 c.args.bytes.now)) % 256 = omega arith in
+    let v : c.read_number-variable.result % 256 ≡ number 0 (take 3 (drop 24 c.args.bytes.now)) % 256 = omega arith in
     cc

@@ -6,8 +6,8 @@ use Rattle.records.proofs.line.read_reference.Goals as goal
 
 pub returns-then-bytes-eq82 : goal.returns-then-bytes-eq82
 unfolding named
-returns-then-bytes-eq82 c = ap R c.read-number-n.ensures ∙ sym (cond-true _ _ _ (eq-eqb _ _ c.if-bytes-eq82.true))
+returns-then-bytes-eq82 c = ap R c.read_number-n.ensures ∙ sym (cond-true _ _ _ (eq-eqb _ _ c.if-bytes-eq82.true))
 
 pub returns-else-bytes-eq82 : goal.returns-else-bytes-eq82
 unfolding named
-returns-else-bytes-eq82 c = ap S c.read-number-n.ensures ∙ sym (cond-false _ _ _ (ne_eqb _ _ c.if-bytes-eq82.false))
+returns-else-bytes-eq82 c = ap S c.read_number-n.ensures ∙ sym (cond-false _ _ _ (ne_eqb _ _ c.if-bytes-eq82.false))

@@ -1,4 +1,3 @@
-use Rattle.std.proofs.Common.{rules}
 use Rattle.replay.proofs.Desks.{made_enter, made_read}
 use Rattle.replay.proofs.calls.make.Goals as goal
 
@@ -9,10 +8,10 @@ pub returns-in-Read : goal.returns-in-Read
 returns-in-Read g c = rw c.in-Read.is (made_read _ _ _ _ _ _ _ c.in-Read.text c.read.result c.read.ensures)
 
 pub returns-in-Open : goal.returns-in-Open
-returns-in-Open g c = rw c.in-Open.is (c.open-at.ensures _ _ _ _)
+returns-in-Open g c = rw c.in-Open.is (c.open_at.ensures _ _ _ _)
 
 pub returns-in-Close : goal.returns-in-Close
-returns-in-Close g c = rw c.in-Close.is (c.close-at.ensures _ _ _ _)
+returns-in-Close g c = rw c.in-Close.is (c.close_at.ensures _ _ _ _)
 
 pub returns-in-Settle : goal.returns-in-Settle
-returns-in-Settle g c = rw c.in-Settle.is (c.settle-at.ensures _)
+returns-in-Settle g c = rw c.in-Settle.is (c.settle_at.ensures _)

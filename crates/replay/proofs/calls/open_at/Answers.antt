@@ -1,4 +1,4 @@
-use Rattle.std.proofs.Common.{[], ◌∷◌, rules}
+use Rattle.std.proofs.Common.{[], ◌∷◌}
 use Rattle.lives.specs.Lives.{rests}
 use Rattle.station.specs.Views.{machine}
 use Rattle.replay.specs.Replays.{opening, no_slip_to_open}

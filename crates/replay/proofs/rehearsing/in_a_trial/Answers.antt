@@ -1,4 +1,4 @@
-use Rattle.std.proofs.Common.{List, [], ◌∷◌, map, length, vec_items, subst, rules}
+use Rattle.std.proofs.Common.{[], ◌∷◌, map, length, vec_items, subst}
 use Rattle.model.specs.Machine.{Machine}
 use Rattle.station.specs.Views.{machine}
 use Rattle.replay.specs.Replays.{Replied}
@@ -9,13 +9,13 @@ pub drop-slip-requires-2 : goal.drop-slip-requires-2
 drop-slip-requires-2 g c =
     (rehearsed_back vec_items (g.O.Order.meaning c.args.order.now) (length c.args.trail.now ∷ length c.args.frames.now ∷ []) c.args.calls.now c.replay-replies.result c.args.file.now c.open.new.self c.replay-replies.new.file c.close.new.self
     c.blank-slip.result c.open.new.slip c.close.new.slip c.replay-replies.new.slips (map g.R.Record.meaning c.args.records.now) (map g.R.Record.meaning c.replay-replies.new.records) c.args.sheet.now c.replay-replies.new.sheet
-    c.in-default.field-0 c.close.result c.blank-slip.ensures c.in-default.ensures c.replay-replies.ensures c.close.ensures).is_blank
+    c.in_default.field-0 c.close.result c.blank-slip.ensures c.in_default.ensures c.replay-replies.ensures c.close.ensures).is_blank
 
 pub returns : goal.returns
 returns g c =
     let b = rehearsed_back vec_items (g.O.Order.meaning c.args.order.now) (length c.args.trail.now ∷ length c.args.frames.now ∷ []) c.args.calls.now c.replay-replies.result c.args.file.now c.open.new.self c.replay-replies.new.file c.close.new.self
     c.blank-slip.result c.open.new.slip c.close.new.slip c.replay-replies.new.slips (map g.R.Record.meaning c.args.records.now) (map g.R.Record.meaning c.replay-replies.new.records) c.args.sheet.now c.replay-replies.new.sheet
-    c.in-default.field-0 c.close.result c.blank-slip.ensures c.in-default.ensures c.replay-replies.ensures c.close.ensures in (
+    c.in_default.field-0 c.close.result c.blank-slip.ensures c.in_default.ensures c.replay-replies.ensures c.close.ensures in (
       b.allowed,
       b.same,
       (

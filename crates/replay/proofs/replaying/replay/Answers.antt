@@ -8,10 +8,10 @@ use Rattle.replay.proofs.replaying.replay.Goals as goal
 pub returns : goal.returns
 returns g c =
     let a = c.args in
-    let rs = c.replay-into.new.replies in
-    let v = c.in-ok-replies.replies in
+    let rs = c.replay_into.new.replies in
+    let v = c.in_ok-replies.replies in
     let all : v.len ≡ length rs = search rules in
     subst
     (λ (us : List Reply). Replayed (g.O.Order.meaning a.order.now) (length a.trail.now ∷ length a.frames.now ∷ []) a.calls.now us (machine a.file.now) a.slips.now (map g.R.Record.meaning a.records.now) a.sheet.now
-    (machine c.replay-into.new.file) c.replay-into.new.slips (map g.R.Record.meaning c.replay-into.new.records) c.replay-into.new.sheet)
-    (sym (take_at rs (drop (length rs) v.items) v.len (sym all))) c.replay-into.ensures
+    (machine c.replay_into.new.file) c.replay_into.new.slips (map g.R.Record.meaning c.replay_into.new.records) c.replay_into.new.sheet)
+    (sym (take_at rs (drop (length rs) v.items) v.len (sym all))) c.replay_into.ensures

@@ -1,4 +1,4 @@
-use Rattle.std.proofs.Common.{◌≡◌, ℕ, ◌<◌, List, [], ◌∷◌, map, length, ap₂, arith, rules}
+use Rattle.std.proofs.Common.{◌≡◌, ℕ, ◌<◌, [], ◌∷◌, map, length, ap₂, rules}
 use Rattle.lives.specs.Lives.{rests}
 use Rattle.station.specs.Views.{machine}
 use Rattle.replay.specs.Replays.{done}

@@ -1,4 +1,4 @@
-use Rattle.std.proofs.Common.{◌≡◌, ℕ, ◌+◌, ◌<◌, ◌≤◌, cond, sym, ap, ◌∙◌, arith}
+use Rattle.std.proofs.Common.{ℕ, ◌+◌, sym, ap, ◌∙◌, arith}
 use Rattle.reports.proofs.Ends.{ends_at, ends_past, ends_done, since_at, since_past, since_done}
 use Rattle.reports.proofs.places.past.Goals as goal
 

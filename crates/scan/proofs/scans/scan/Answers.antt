@@ -1,4 +1,4 @@
-use Rattle.std.proofs.Common.{◌≡◌, ℕ, ◌+◌, ◌<◌, ◌≤◌, List, [], ◌∷◌, ◌++◌, length, take, drop, Some, sym, refl, ap, ◌∙◌, subst, append-nil, arith, rules}
+use Rattle.std.proofs.Common.{◌≡◌, ℕ, ◌+◌, ◌<◌, List, length, take, drop, Some, sym, subst, arith}
 use Rattle.std.proofs.lemmas.List.{take_all, take-append-drop, length-take-le}
 use Rattle.model.specs.Clauses.{Clause}
 use Rattle.model.specs.Search.{Setting}
@@ -14,7 +14,7 @@ use Rattle.scan.proofs.Scanned.{added_scanned, conflict_more}
 use Rattle.scan.proofs.scans.scan.Goals as goal
 
 pub unreachable-requires : goal.unreachable-requires
-unreachable-requires c = numbered_there (machine c.args.file.now).clauses (c.loop-i.i + 1) (omega arith) (omega (arith, c.clauses-i-end.ensures)) c.in-default.ensures
+unreachable-requires c = numbered_there (machine c.args.file.now).clauses (c.loop-i.i + 1) (omega arith) (omega (arith, c.clauses-i-end.ensures)) c.in_default.ensures
 
 pub test-requires : goal.test-requires
 test-requires c =
@@ -39,14 +39,14 @@ returns-in-Conflict c =
     let σ = c.args.settings.now in
     let F = (machine c.args.file.now).clauses in
     let i = c.loop-i.i in
-    let h = one_more σ F i _ c.loop-i.so_far c.add-so-far.result c.test.result (omega (arith, c.clauses-i-end.ensures)) c.in-Some.ensures c.test.ensures c.loop-i.invariant c.add-so-far.ensures in
+    let h = one_more σ F i _ c.loop-i.so_far c.add-so_far.result c.test.result (omega (arith, c.clauses-i-end.ensures)) c.in-Some.ensures c.test.ensures c.loop-i.invariant c.add-so_far.ensures in
     let k = conflict_more σ (take (i + 1) F) (drop (i + 1) F) c.in-Conflict.field-0 (subst (λ (x : Scan). Scanned σ (take (i + 1) F) x) c.in-Conflict.is h) in
     subst (λ (x : Scan). Scanned σ F x) (sym c.in-Conflict.is) (subst (λ (G : List Clause). Scanned σ G (Conflict c.in-Conflict.field-0)) (take-append-drop (i + 1) F) k)
 
 pub loop-i-preserved : goal.loop-i-preserved
 loop-i-preserved c =
-    one_more c.args.settings.now (machine c.args.file.now).clauses c.loop-i.i _ c.loop-i.so_far c.add-so-far.result c.test.result
-    (omega (arith, c.clauses-i-end.ensures)) c.in-Some.ensures c.test.ensures c.loop-i.invariant c.add-so-far.ensures
+    one_more c.args.settings.now (machine c.args.file.now).clauses c.loop-i.i _ c.loop-i.so_far c.add-so_far.result c.test.result
+    (omega (arith, c.clauses-i-end.ensures)) c.in-Some.ensures c.test.ensures c.loop-i.invariant c.add-so_far.ensures
 
 pub returns : goal.returns
 returns c =

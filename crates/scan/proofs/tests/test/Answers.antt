@@ -1,8 +1,8 @@
-use Rattle.std.proofs.Common.{◌≡◌, ℕ, ◌+◌, ◌<◌, ◌≤◌, List, [], ◌∷◌, ◌++◌, length, get_or, take, ℤ, pos, sym, refl, ap, ◌∙◌, subst, arith, w32, SFits, to_z, of_z, rules}
+use Rattle.std.proofs.Common.{[], ◌∷◌, ◌++◌, length, get_or, take, ℤ, pos, sym, ap, ◌∙◌, subst, arith, w32, SFits, rules}
 use Rattle.std.proofs.lemmas.List.{take_all, take_more}
 use Rattle.std.proofs.lemmas.Int.{to_z-of_z}
 use Rattle.model.specs.Clauses.{Clause, Within}
-use Rattle.model.specs.Search.{SomeTrue, value}
+use Rattle.model.specs.Search.{value}
 use Rattle.model.proofs.Members.{in_get_or}
 use Rattle.model.proofs.Total.{low_value}
 use Rattle.clauses.specs.Sets.{code}
@@ -15,7 +15,7 @@ unreachable-requires c =
     let t : ℤ = get_or c.args.literals.now c.loop-number.number-index (pos 0) in
     let f : SFits w32 t = search rules in
     let w = c.requires.literals t (in_get_or c.args.literals.now c.loop-number.number-index (pos 0) c.loop-number-test.true) in
-    subst (λ (x : ℤ). Within 256 x → ⊥) (to_z-of_z w32 t f) c.in-default.ensures (w.0, omega (arith, w.1, c.requires.few))
+    subst (λ (x : ℤ). Within 256 x → ⊥) (to_z-of_z w32 t f) c.in_default.ensures (w.0, omega (arith, w.1, c.requires.few))
 
 pub look-v-requires : goal.look-v-requires
 look-v-requires c =
@@ -33,8 +33,8 @@ returns-then-v-eq1 c =
       ap (value c.args.settings.now) (sym (c.in-Some.ensures ∙ to_z-of_z w32 t f)) ∙ sym c.look-v.ensures ∙ c.if-v-eq1.true,
     )
 
-pub further-so-far-requires : goal.further-so-far-requires
-further-so-far-requires c = (c.if-v-eq1.false, let l = low_value c.args.settings.now (code c.in-Some.t) c.requires.settings in omega (arith, c.look-v.ensures, l))
+pub further-so_far-requires : goal.further-so_far-requires
+further-so_far-requires c = (c.if-v-eq1.false, let l = low_value c.args.settings.now (code c.in-Some.t) c.requires.settings in omega (arith, c.look-v.ensures, l))
 
 pub loop-number-preserved : goal.loop-number-preserved
 loop-number-preserved c =
@@ -43,9 +43,9 @@ loop-number-preserved c =
     let t : ℤ = get_or xs i (pos 0) in
     let f : SFits w32 t = search rules in
     let e = c.in-Some.ensures ∙ to_z-of_z w32 t f in
-    subst (λ (C : Clause). Tested c.args.settings.now C c.further-so-far.result)
+    subst (λ (C : Clause). Tested c.args.settings.now C c.further-so_far.result)
     (ap (λ (u : ℤ). take i xs ++ (u ∷ [])) e ∙ sym (take_more xs i (pos 0) c.loop-number-test.true))
-    (c.further-so-far.ensures c.args.settings.now (take i xs) (sym c.look-v.ensures) c.loop-number.invariant)
+    (c.further-so_far.ensures c.args.settings.now (take i xs) (sym c.look-v.ensures) c.loop-number.invariant)
 
 pub returns : goal.returns
 returns c = subst (λ (C : Clause). Tested c.args.settings.now C c.loop-number.so_far) (take_all c.loop-number.number-index c.args.literals.now c.loop-number-test.false) c.loop-number.invariant

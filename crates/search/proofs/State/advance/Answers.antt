@@ -1,9 +1,9 @@
-use Rattle.std.proofs.Common.{◌≡◌, ℕ, ◌<◌, ◌≤◌, List, length, sym, refl, ap, ◌∙◌, subst, arith, rules}
+use Rattle.std.proofs.Common.{ℕ, List, sym, ap, ◌∙◌, subst, arith}
 use Rattle.model.specs.Search.{Chosen, value}
 use Rattle.model.proofs.Failing.{chosen_unset}
 use Rattle.clauses.specs.Sets.{code}
 use Rattle.station.proofs.Files.{over_file}
-use Rattle.search.specs.States.{position, machine_of}
+use Rattle.search.specs.States.{position}
 use Rattle.search.proofs.Keeping.{kept_same}
 use Rattle.search.proofs.GoingOn.{going_length, going_low, not_deep, unset_index, going_forced, going_chosen, going_fits, choice_left}
 use Rattle.search.proofs.State.advance.Goals as goal

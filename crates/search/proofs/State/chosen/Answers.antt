@@ -1,4 +1,4 @@
-use Rattle.std.proofs.Common.{◌≡◌, ℕ, ◌<◌, ◌≤◌, ℤ, pos, sym, refl, ap, ◌∙◌, subst, arith, w32, SFits, rules}
+use Rattle.std.proofs.Common.{◌<◌, ℤ, ◌∙◌, subst, arith, w32, SFits, rules}
 use Rattle.std.proofs.lemmas.Int.{to_z-of_z}
 use Rattle.model.specs.Clauses.{Within}
 use Rattle.model.proofs.Failing.{chosen_unset}
@@ -6,15 +6,15 @@ use Rattle.search.proofs.GoingOn.{chosen_some, chosen_low}
 use Rattle.search.proofs.State.chosen.Goals as goal
 
 pub unreachable-requires : goal.unreachable-requires
-unreachable-requires g c = chosen_some c.requires.1 c.in-default.ensures
+unreachable-requires g c = chosen_some c.requires.1 c.in_default.ensures
 
-pub unreachable-requires-in-default-of : goal.unreachable-requires-in-default-of
-unreachable-requires-in-default-of g c =
+pub unreachable-requires-in_default-of : goal.unreachable-requires-in_default-of
+unreachable-requires-in_default-of g c =
     let f : SFits w32 c.from.result = search rules in
     let e = to_z-of_z w32 c.from.result f ∙ c.from.ensures in
     let low = chosen_low _ c.in-Some.k (chosen_unset c.in-Some.ensures) in
     let high : c.in-Some.k < 256 = search rules in
-    subst (λ (t : ℤ). Within 256 t → ⊥) e c.in-default-of.ensures (low, omega arith)
+    subst (λ (t : ℤ). Within 256 t → ⊥) e c.in_default-of.ensures (low, omega arith)
 
 pub returns : goal.returns
 returns g c =

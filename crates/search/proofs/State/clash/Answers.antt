@@ -1,4 +1,4 @@
-use Rattle.std.proofs.Common.{◌≡◌, ℕ, ◌<◌, ◌≤◌, Ok, sym, refl, ap, ◌∙◌, subst, arith, rules}
+use Rattle.std.proofs.Common.{Ok, subst}
 use Rattle.std.proofs.lemmas.Result.{err_from_is_err_and}
 use Rattle.model.proofs.Numbered.{first_numbered}
 use Rattle.search.specs.declared.Turn.{Turn}
@@ -7,24 +7,24 @@ use Rattle.search.proofs.Weights.{under_weight}
 use Rattle.search.proofs.GoingOn.{going_stuck, stuck_root}
 use Rattle.search.proofs.State.clash.Goals as goal
 
-pub frame-of-failure-requires : goal.frame-of-failure-requires
-frame-of-failure-requires g c = (c.requires.first.0, first_numbered c.requires.first.1)
+pub frame_of-failure-requires : goal.frame_of-failure-requires
+frame_of-failure-requires g c = (c.requires.first.0, first_numbered c.requires.first.1)
 
 pub unwind-requires : goal.unwind-requires
 unwind-requires g c =
     let f = c.requires.first in
     let run = c.requires.going.0 in
-    record { room = c.requires.room; stuck = (run, going_stuck run _ _ _ c.requires.going.1 c.args.k c.frame-of-failure.result f.0 f.1 c.frame-of-failure.ensures.by (c.frame-of-failure.ensures.holds f.0 (first_numbered f.1))) }
+    record { room = c.requires.room; stuck = (run, going_stuck run _ _ _ c.requires.going.1 c.args.k c.frame_of-failure.result f.0 f.1 c.frame_of-failure.ensures.by (c.frame_of-failure.ensures.holds f.0 (first_numbered f.1))) }
 
-pub returns-in-err-unwind : goal.returns-in-err-unwind
-returns-in-err-unwind g c =
+pub returns-in_err-unwind : goal.returns-in_err-unwind
+returns-in_err-unwind g c =
     let f = c.requires.first in
-    let q = err_from_is_err_and c.from-residual.result c.from-residual.ensures.1 in
+    let q = err_from_is_err_and c.from_residual.result c.from_residual.ensures.1 in
     record {
       kept = c.unwind.ensures.kept;
       tied = c.unwind.ensures.tied;
-      advanced = λ run s. rw (q.1, q.2) (c.in-err-unwind.ensures.unwound run
-          (going_stuck run _ _ _ s c.args.k c.frame-of-failure.result f.0 f.1 c.frame-of-failure.ensures.by (c.frame-of-failure.ensures.holds f.0 (first_numbered f.1))));
+      advanced = λ run s. rw (q.1, q.2) (c.in_err-unwind.ensures.unwound run
+          (going_stuck run _ _ _ s c.args.k c.frame_of-failure.result f.0 f.1 c.frame_of-failure.ensures.by (c.frame_of-failure.ensures.holds f.0 (first_numbered f.1))));
     }
 
 pub returns-in-Turned : goal.returns-in-Turned
@@ -35,8 +35,8 @@ returns-in-Turned g c =
       kept = c.unwind.ensures.kept;
       tied = c.unwind.ensures.tied;
       advanced = λ run s.
-          let u = c.in-ok-unwind.ensures.unwound run
-          (going_stuck run _ _ _ s c.args.k c.frame-of-failure.result f.0 f.1 c.frame-of-failure.ensures.by (c.frame-of-failure.ensures.holds f.0 (first_numbered f.1))) in
+          let u = c.in_ok-unwind.ensures.unwound run
+          (going_stuck run _ _ _ s c.args.k c.frame_of-failure.result f.0 f.1 c.frame_of-failure.ensures.by (c.frame_of-failure.ensures.holds f.0 (first_numbered f.1))) in
           let k = subst (λ (t : Turn). Unwound run m (position c.args.self.now) (g.R.Record.meaning c.unwind.new.record) (position c.unwind.new.self) c.unwind.new.failure (Ok t)) c.in-Turned.is u in
           (k.0, under_weight m.variables _ (position c.args.self.now).marks k.1);
     }
@@ -49,8 +49,8 @@ returns-in-Failing g c =
       kept = c.unwind.ensures.kept;
       tied = c.unwind.ensures.tied;
       advanced = λ run s.
-          let u = c.in-ok-unwind.ensures.unwound run
-          (going_stuck run _ _ _ s c.args.k c.frame-of-failure.result f.0 f.1 c.frame-of-failure.ensures.by (c.frame-of-failure.ensures.holds f.0 (first_numbered f.1))) in
+          let u = c.in_ok-unwind.ensures.unwound run
+          (going_stuck run _ _ _ s c.args.k c.frame_of-failure.result f.0 f.1 c.frame_of-failure.ensures.by (c.frame_of-failure.ensures.holds f.0 (first_numbered f.1))) in
           let k = subst (λ (t : Turn). Unwound run m (position c.args.self.now) (g.R.Record.meaning c.unwind.new.record) (position c.unwind.new.self) c.unwind.new.failure (Ok t)) c.in-Failing.is u in
           stuck_root run m _ (position c.unwind.new.self) c.unwind.new.failure k.0 k.1;
     }

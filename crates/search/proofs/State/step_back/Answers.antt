@@ -1,15 +1,11 @@
-use Rattle.std.proofs.Common.{◌≡◌, ℕ, ◌<◌, ◌≤◌, [], ◌∷◌, length, Some, Ok, Err, Result, sym, refl, ap, ◌∙◌, subst, arith, length-append, length-set, rules}
+use Rattle.std.proofs.Common.{[], ◌∷◌, length, Ok, Err, ap, ◌∙◌, arith, length-append, length-set}
 use Rattle.std.proofs.lemmas.Result.{err_from_is_err_and}
-use Rattle.model.specs.declared.Decline.{Decline}
-use Rattle.model.specs.Clauses.{Clause}
 use Rattle.model.specs.Machine.{Machine, clause_at}
-use Rattle.clauses.specs.Sets.{Holds}
 use Rattle.station.proofs.Files.{small_file}
-use Rattle.search.specs.declared.Turn.{Turn}
 use Rattle.search.specs.Stacks.{items}
-use Rattle.search.specs.States.{Position, Run, position, machine_of, Stepped}
+use Rattle.search.specs.States.{Position, position}
 use Rattle.search.proofs.Keeping.{kept_join, kept_popped, kept_framed}
-use Rattle.search.proofs.GoingBack.{top_index, marks_low, frames_low, settings_long, clause_there, frame_there, on_frames, stepped_clause, stepped_off, stepped_on}
+use Rattle.search.proofs.GoingBack.{top_index, marks_low, settings_long, clause_there, frame_there, on_frames, stepped_clause, stepped_off, stepped_on}
 use Rattle.search.proofs.State.step_back.Goals as goal
 
 pub clear-requires : goal.clear-requires
@@ -19,8 +15,8 @@ clear-requires g c =
     let l = settings_long c.requires.stuck.0 _ _ _ _ s _ c.pop-mark.result c.pop-mark.ensures.items in
     omega (arith, i, l)
 
-pub frame-of-setter-requires : goal.frame-of-setter-requires
-frame-of-setter-requires g c =
+pub frame_of-setter-requires : goal.frame_of-setter-requires
+frame_of-setter-requires g c =
     let x = clause_there c.requires.stuck.0 _ _ _ _ c.requires.stuck.1 _ c.pop-mark.result c.pop-mark.ensures.items c.in-Clause.k c.in-Clause.is in
     (x.0, ap (λ (m : Machine). clause_at m.clauses c.in-Clause.k) c.clear.ensures.kept.file_is ∙ x.1)
 
@@ -58,27 +54,27 @@ pop-setter-requires g c =
     let e = ap (λ z. length z.frames) c.clear.ensures.position in
     record { sound = c.clear.ensures.kept.frames_sound c.requires.room.frames_sound; some = omega (arith, h, e) }
 
-pub returns-in-err-past : goal.returns-in-err-past
-returns-in-err-past g c =
-    let q = err_from_is_err_and c.from-residual.result c.from-residual.ensures.1 in
+pub returns-in_err-past-in-Clause : goal.returns-in_err-past-in-Clause
+returns-in_err-past-in-Clause g c =
+    let q = err_from_is_err_and c.from_residual.result c.from_residual.ensures.1 in
     record {
       kept = kept_join (kept_popped c.clear.ensures.kept c.pop-mark.ensures.places c.pop-mark.ensures.sound) c.past.ensures.kept;
       tied = c.past.ensures.tied;
-      stepped = λ run s. rw (q.1, q.2) (stepped_clause run _ _ _ _ s _ c.pop-mark.result c.pop-mark.ensures.items (position c.clear.new.self) (position c.past.new.self) c.past.new.failure _ c.frame-of-setter.result
-          c.clear.ensures.position c.in-Clause.k c.in-Clause.is c.frame-of-setter.ensures.by
-          (λ C e. c.frame-of-setter.ensures.holds C (ap (λ (m : Machine). clause_at m.clauses c.in-Clause.k) c.clear.ensures.kept.file_is ∙ e))
-          c.past.ensures.position (Err c.in-err-past.field-0.0) c.in-err-past.ensures.past);
+      stepped = λ run s. rw (q.1, q.2) (stepped_clause run _ _ _ _ s _ c.pop-mark.result c.pop-mark.ensures.items (position c.clear.new.self) (position c.past.new.self) c.past.new.failure _ c.frame_of-setter.result
+          c.clear.ensures.position c.in-Clause.k c.in-Clause.is c.frame_of-setter.ensures.by
+          (λ C e. c.frame_of-setter.ensures.holds C (ap (λ (m : Machine). clause_at m.clauses c.in-Clause.k) c.clear.ensures.kept.file_is ∙ e))
+          c.past.ensures.position (Err c.in_err-past-in-Clause.field-0.0) c.in_err-past-in-Clause.ensures.past);
     }
 
-pub returns-in-ok-past : goal.returns-in-ok-past
-returns-in-ok-past g c =
+pub returns-in_ok-past-in-Clause : goal.returns-in_ok-past-in-Clause
+returns-in_ok-past-in-Clause g c =
     record {
       kept = kept_join (kept_popped c.clear.ensures.kept c.pop-mark.ensures.places c.pop-mark.ensures.sound) c.past.ensures.kept;
       tied = c.past.ensures.tied;
-      stepped = λ run s. stepped_clause run _ _ _ _ s _ c.pop-mark.result c.pop-mark.ensures.items (position c.clear.new.self) (position c.past.new.self) c.past.new.failure _ c.frame-of-setter.result
-          c.clear.ensures.position c.in-Clause.k c.in-Clause.is c.frame-of-setter.ensures.by
-          (λ C e. c.frame-of-setter.ensures.holds C (ap (λ (m : Machine). clause_at m.clauses c.in-Clause.k) c.clear.ensures.kept.file_is ∙ e))
-          c.past.ensures.position (Ok c.in-ok-past.field-0) c.in-ok-past.ensures.past;
+      stepped = λ run s. stepped_clause run _ _ _ _ s _ c.pop-mark.result c.pop-mark.ensures.items (position c.clear.new.self) (position c.past.new.self) c.past.new.failure _ c.frame_of-setter.result
+          c.clear.ensures.position c.in-Clause.k c.in-Clause.is c.frame_of-setter.ensures.by
+          (λ C e. c.frame_of-setter.ensures.holds C (ap (λ (m : Machine). clause_at m.clauses c.in-Clause.k) c.clear.ensures.kept.file_is ∙ e))
+          c.past.ensures.position (Ok c.in_ok-past-in-Clause.field-0) c.in_ok-past-in-Clause.ensures.past;
     }
 
 pub returns-in-On : goal.returns-in-On
@@ -89,23 +85,23 @@ returns-in-On g c =
       stepped = λ run s. stepped_on run _ _ _ _ s _ c.pop-mark.result c.pop-mark.ensures.items (position c.clear.new.self) (position c.turn.new.self) c.clear.ensures.position c.in-On.is c.turn.result c.turn.ensures.turned;
     }
 
-pub returns-in-err-past-2 : goal.returns-in-err-past-2
-returns-in-err-past-2 g c =
-    let q = err_from_is_err_and c.from-residual-in-err-past-2.result c.from-residual-in-err-past-2.ensures.1 in
+pub returns-in_err-past-in-Off : goal.returns-in_err-past-in-Off
+returns-in_err-past-in-Off g c =
+    let q = err_from_is_err_and c.from_residual-in_err-past-in-Off.result c.from_residual-in_err-past-in-Off.ensures.1 in
     record {
       kept = kept_join (kept_framed (kept_popped c.clear.ensures.kept c.pop-mark.ensures.places c.pop-mark.ensures.sound) c.pop-setter.ensures.places c.pop-setter.ensures.sound) c.past-in-Off.ensures.kept;
       tied = c.past-in-Off.ensures.tied;
       stepped = λ run s. rw (q.1, q.2) (stepped_off run _ _ _ _ s _ c.pop-mark.result c.pop-mark.ensures.items (position c.clear.new.self) (position c.past-in-Off.new.self) c.past-in-Off.new.failure _ c.pop-setter.result
           c.clear.ensures.position c.in-Off.is (items c.pop-setter.new.self) c.pop-setter.ensures.items
-          c.past-in-Off.ensures.position (Err c.in-err-past-2.field-0.0) c.in-err-past-2.ensures.past);
+          c.past-in-Off.ensures.position (Err c.in_err-past-in-Off.field-0.0) c.in_err-past-in-Off.ensures.past);
     }
 
-pub returns-in-ok-past-2 : goal.returns-in-ok-past-2
-returns-in-ok-past-2 g c =
+pub returns-in_ok-past-in-Off : goal.returns-in_ok-past-in-Off
+returns-in_ok-past-in-Off g c =
     record {
       kept = kept_join (kept_framed (kept_popped c.clear.ensures.kept c.pop-mark.ensures.places c.pop-mark.ensures.sound) c.pop-setter.ensures.places c.pop-setter.ensures.sound) c.past-in-Off.ensures.kept;
       tied = c.past-in-Off.ensures.tied;
       stepped = λ run s. stepped_off run _ _ _ _ s _ c.pop-mark.result c.pop-mark.ensures.items (position c.clear.new.self) (position c.past-in-Off.new.self) c.past-in-Off.new.failure _ c.pop-setter.result
           c.clear.ensures.position c.in-Off.is (items c.pop-setter.new.self) c.pop-setter.ensures.items
-          c.past-in-Off.ensures.position (Ok c.in-ok-past-2.field-0) c.in-ok-past-2.ensures.past;
+          c.past-in-Off.ensures.position (Ok c.in_ok-past-in-Off.field-0) c.in_ok-past-in-Off.ensures.past;
     }

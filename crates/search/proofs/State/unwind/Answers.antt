@@ -1,15 +1,14 @@
-use Rattle.std.proofs.Common.{◌≡◌, ℕ, ◌<◌, ◌≤◌, length, Ok, Err, Result, sym, refl, ap, ◌∙◌, subst, arith, rules}
+use Rattle.std.proofs.Common.{Ok, Err, sym, refl, ap, subst, arith}
 use Rattle.std.proofs.lemmas.Result.{err_from_is_err_and}
 use Rattle.model.specs.Machine.{Machine}
-use Rattle.search.specs.declared.Turn.{Turn}
 use Rattle.search.specs.declared.Turn.TheVariants.{Failing, Turned}
 use Rattle.search.specs.States.{Run, position, machine_of, Stuck, Stepped}
 use Rattle.search.proofs.Keeping.{kept_join, kept_room, stepped_there}
 use Rattle.search.proofs.State.unwind.Given.{Over}
 use Rattle.search.proofs.State.unwind.Goals as goal
 
-pub step-back-requires : goal.step-back-requires
-step-back-requires g c =
+pub step_back-requires : goal.step_back-requires
+step_back-requires g c =
     let v = c.loop-self.invariant in
     let e = v.0.file_is in
     let run = c.requires.stuck.0 in
@@ -19,40 +18,40 @@ step-back-requires g c =
       stuck = (run, subst (λ (m : Machine). Stuck run m (g.R.Record.meaning c.loop-self.record) (position c.loop-self.self) c.loop-self.failure) (sym e) (v.2 run c.requires.stuck.1));
     }
 
-pub returns-in-err-step-back : goal.returns-in-err-step-back
-returns-in-err-step-back g c =
+pub returns-in_err-step_back : goal.returns-in_err-step_back
+returns-in_err-step_back g c =
     let v = c.loop-self.invariant in
-    let q = err_from_is_err_and c.from-residual.result c.from-residual.ensures.1 in
+    let q = err_from_is_err_and c.from_residual.result c.from_residual.ensures.1 in
     record {
-      kept = kept_join v.0 c.step-back.ensures.kept;
-      tied = g.R.Record.joins _ _ _ v.1 c.step-back.ensures.tied;
+      kept = kept_join v.0 c.step_back.ensures.kept;
+      tied = g.R.Record.joins _ _ _ v.1 c.step_back.ensures.tied;
       unwound = λ run s. rw (q.1, q.2)
-          (stepped_there (machine_of c.args.self.now) (machine_of c.loop-self.self) v.0.file_is run _ (g.R.Record.meaning c.step-back.new.record) (position c.loop-self.self) (position c.step-back.new.self)
-          c.loop-self.failure c.step-back.new.failure
-          (Err c.in-err-step-back.field-0.0) (Err c.in-err-step-back.field-0.0) refl (c.in-err-step-back.ensures.stepped run) (v.2 run s));
+          (stepped_there (machine_of c.args.self.now) (machine_of c.loop-self.self) v.0.file_is run _ (g.R.Record.meaning c.step_back.new.record) (position c.loop-self.self) (position c.step_back.new.self)
+          c.loop-self.failure c.step_back.new.failure
+          (Err c.in_err-step_back.field-0.0) (Err c.in_err-step_back.field-0.0) refl (c.in_err-step_back.ensures.stepped run) (v.2 run s));
     }
 
 pub returns-in-Turned : goal.returns-in-Turned
 returns-in-Turned g c =
     let v = c.loop-self.invariant in
     record {
-      kept = kept_join v.0 c.step-back.ensures.kept;
-      tied = g.R.Record.joins _ _ _ v.1 c.step-back.ensures.tied;
+      kept = kept_join v.0 c.step_back.ensures.kept;
+      tied = g.R.Record.joins _ _ _ v.1 c.step_back.ensures.tied;
       unwound = λ run s.
-          let k = stepped_there (machine_of c.args.self.now) (machine_of c.loop-self.self) v.0.file_is run _ (g.R.Record.meaning c.step-back.new.record) (position c.loop-self.self) (position c.step-back.new.self)
-          c.loop-self.failure c.step-back.new.failure
-          (Ok c.in-ok-step-back.field-0) (Ok Turned) (ap Ok c.in-Turned.is) (c.in-ok-step-back.ensures.stepped run) (v.2 run s) in
+          let k = stepped_there (machine_of c.args.self.now) (machine_of c.loop-self.self) v.0.file_is run _ (g.R.Record.meaning c.step_back.new.record) (position c.loop-self.self) (position c.step_back.new.self)
+          c.loop-self.failure c.step_back.new.failure
+          (Ok c.in_ok-step_back.field-0) (Ok Turned) (ap Ok c.in-Turned.is) (c.in_ok-step_back.ensures.stepped run) (v.2 run s) in
           (k.0, omega (arith, k.1, v.3));
     }
 
 -- the search still fails, one setting further back
-still : (g : Over) (c : goal.In-default g) (run : Run) → Stuck run (machine_of c.args.self.now) (g.R.Record.meaning c.args.record.now) (position c.args.self.now) c.args.failure.now
-    → Stepped run (machine_of c.args.self.now) (position c.loop-self.self) (g.R.Record.meaning c.step-back.new.record) (position c.step-back.new.self) c.step-back.new.failure (Ok Failing)
+still : (g : Over) (c : goal.In_default g) (run : Run) → Stuck run (machine_of c.args.self.now) (g.R.Record.meaning c.args.record.now) (position c.args.self.now) c.args.failure.now
+    → Stepped run (machine_of c.args.self.now) (position c.loop-self.self) (g.R.Record.meaning c.step_back.new.record) (position c.step_back.new.self) c.step_back.new.failure (Ok Failing)
 still g c run s =
     let v = c.loop-self.invariant in
-    stepped_there (machine_of c.args.self.now) (machine_of c.loop-self.self) v.0.file_is run _ (g.R.Record.meaning c.step-back.new.record) (position c.loop-self.self) (position c.step-back.new.self)
-    c.loop-self.failure c.step-back.new.failure
-    (Ok c.in-ok-step-back.field-0) (Ok Failing) (ap Ok c.in-default.is) (c.in-ok-step-back.ensures.stepped run) (v.2 run s)
+    stepped_there (machine_of c.args.self.now) (machine_of c.loop-self.self) v.0.file_is run _ (g.R.Record.meaning c.step_back.new.record) (position c.loop-self.self) (position c.step_back.new.self)
+    c.loop-self.failure c.step_back.new.failure
+    (Ok c.in_ok-step_back.field-0) (Ok Failing) (ap Ok c.in_default.is) (c.in_ok-step_back.ensures.stepped run) (v.2 run s)
 
 pub loop-self-smaller : goal.loop-self-smaller
 loop-self-smaller g c = (still g c c.requires.stuck.0 c.requires.stuck.1).1
@@ -60,7 +59,7 @@ loop-self-smaller g c = (still g c c.requires.stuck.0 c.requires.stuck.1).1
 pub loop-self-preserved : goal.loop-self-preserved
 loop-self-preserved g c =
     let v = c.loop-self.invariant in
-    (kept_join v.0 c.step-back.ensures.kept, g.R.Record.joins _ _ _ v.1 c.step-back.ensures.tied, (λ run s. (still g c run s).0), omega (arith, v.3, (still g c c.requires.stuck.0 c.requires.stuck.1).2))
+    (kept_join v.0 c.step_back.ensures.kept, g.R.Record.joins _ _ _ v.1 c.step_back.ensures.tied, (λ run s. (still g c run s).0), omega (arith, v.3, (still g c c.requires.stuck.0 c.requires.stuck.1).2))
 
 pub returns : goal.returns
 returns g c =

@@ -1,4 +1,4 @@
-use Rattle.std.proofs.Common.{◌≡◌, ℤ, Some, sym, refl, ap, ◌∙◌, subst, arith}
+use Rattle.std.proofs.Common.{◌≡◌, ℤ, refl, subst, arith}
 use Rattle.model.specs.Clauses.{Clause, ◌∈◌, Within}
 use Rattle.model.proofs.Numbered.{numbered_each}
 use Rattle.clauses.specs.Sets.{Holds}

@@ -23,13 +23,13 @@ loop-t-preserved c =
 held_all : (n : ℕ) (h : Hand) (ts : List ℤ) (i : ℕ) → length ts ≤ i → Holds n h (take i ts) → Holds n h ts
 held_all n h ts i l p = rw (take_all i ts l) at p
 
-pub returns-in-err-more : goal.returns-in-err-more
+pub returns-in_err-more : goal.returns-in_err-more
 unfolding machine
-returns-in-err-more c =
+returns-in_err-more c =
     let f = c.args.self.now in
     let ts = c.args.literals.now in
-    let r = c.in-err-more.ensures ts (held_all f.variables c.loop-t.hand ts c.loop-t.t-index c.loop-t-test.false c.loop-t.invariant) in
-    let p = err_from_is_err_and c.from-residual.result c.from-residual.ensures.1 in
+    let r = c.in_err-more.ensures ts (held_all f.variables c.loop-t.hand ts c.loop-t.t-index c.loop-t-test.false c.loop-t.invariant) in
+    let p = err_from_is_err_and c.from_residual.result c.from_residual.ensures.1 in
     rw (p.1, p.2) (r.refused f.number (take f.depth f.marks), rw (r.same_lits, r.same_ends))
 
 pub returns : goal.returns
@@ -38,5 +38,5 @@ returns c =
     let f = c.args.self.now in
     let ts = c.args.literals.now in
     let tall : length f.ends ≡ 1000 = search rules in
-    let a = c.in-ok-more.ensures ts (held_all f.variables c.loop-t.hand ts c.loop-t.t-index c.loop-t-test.false c.loop-t.invariant) in
+    let a = c.in_ok-more.ensures ts (held_all f.variables c.loop-t.hand ts c.loop-t.t-index c.loop-t-test.false c.loop-t.invariant) in
     (a.allowed f.number (take f.depth f.marks), a.one ∙ ap (λ n. n + 1) (sym (count_is f tall)), a.now_in f.number (take f.depth f.marks))

@@ -3,9 +3,9 @@ use Rattle.station.specs.Cuts.{parts, rises, last_of}
 use Rattle.station.specs.Views.{standing, machine_in, machine}
 use Rattle.station.proofs.StationFile.new.Goals as goal
 
-pub invariant-of-result : goal.invariant-of-result
+pub invariant_of-result : goal.invariant_of-result
 unfolding rises last_of
-invariant-of-result c = search rules
+invariant_of-result c = search rules
 
 pub returns : goal.returns
 unfolding machine machine_in standing parts

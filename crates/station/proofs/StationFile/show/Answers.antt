@@ -11,27 +11,27 @@ returns-then-k-self c =
     let tall : length f.ends ≡ 1000 = search rules in
     clause_at_place (machine f).clauses k c.if-k-eq0.false ∙ nth_past (machine f).clauses (k - 1) (omega (arith, count_is f tall, c.if-k-self.true))
 
-pub offset-bounds-self-from : goal.offset-bounds-self-from
-offset-bounds-self-from c =
+pub offset_bounds-self-from : goal.offset_bounds-self-from
+offset_bounds-self-from c =
     let tall : length c.args.self.now.ends ≡ 1000 = search rules in
-    let b = lies c.args.self.now tall c.args.k c.start-of-from.result c.if-k-eq0.false c.if-k-self.false c.start-of-from.ensures in
+    let b = lies c.args.self.now tall c.args.k c.start_of-from.result c.if-k-eq0.false c.if-k-self.false c.start_of-from.ensures in
     search rules
 
-pub slice-bounds-result-count : goal.slice-bounds-result-count
-slice-bounds-result-count c =
+pub slice_bounds-result-count : goal.slice_bounds-result-count
+slice_bounds-result-count c =
     let tall : length c.args.self.now.ends ≡ 1000 = search rules in
-    (lies c.args.self.now tall c.args.k c.start-of-from.result c.if-k-eq0.false c.if-k-self.false c.start-of-from.ensures).0
+    (lies c.args.self.now tall c.args.k c.start_of-from.result c.if-k-eq0.false c.if-k-self.false c.start_of-from.ensures).0
 
-pub slice-bounds-result-start : goal.slice-bounds-result-start
-slice-bounds-result-start c =
+pub slice_bounds-result-start : goal.slice_bounds-result-start
+slice_bounds-result-start c =
     let tall : length c.args.self.now.ends ≡ 1000 = search rules in
-    let b = lies c.args.self.now tall c.args.k c.start-of-from.result c.if-k-eq0.false c.if-k-self.false c.start-of-from.ensures in
+    let b = lies c.args.self.now tall c.args.k c.start_of-from.result c.if-k-eq0.false c.if-k-self.false c.start_of-from.ensures in
     search rules
 
-pub slice-bounds-result-end : goal.slice-bounds-result-end
-slice-bounds-result-end c =
+pub slice_bounds-result-end : goal.slice_bounds-result-end
+slice_bounds-result-end c =
     let tall : length c.args.self.now.ends ≡ 1000 = search rules in
-    let b = lies c.args.self.now tall c.args.k c.start-of-from.result c.if-k-eq0.false c.if-k-self.false c.start-of-from.ensures in
+    let b = lies c.args.self.now tall c.args.k c.start_of-from.result c.if-k-eq0.false c.if-k-self.false c.start_of-from.ensures in
     search rules
 
 pub returns : goal.returns
@@ -41,4 +41,4 @@ returns c =
     let tall : length f.ends ≡ 1000 = search rules in
     let low : k - 1 < f.counts.clauses = omega arith in
     let z = get_or f.ends (k - 1) 0 in
-    clause_at_place (machine f).clauses k c.if-k-eq0.false ∙ (shown f tall (k - 1) low ∙ ap (λ a. Some (take (z - a) (drop a f.lits))) (sym c.start-of-from.ensures))
+    clause_at_place (machine f).clauses k c.if-k-eq0.false ∙ (shown f tall (k - 1) low ∙ ap (λ a. Some (take (z - a) (drop a f.lits))) (sym c.start_of-from.ensures))

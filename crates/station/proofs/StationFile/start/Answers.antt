@@ -15,11 +15,11 @@ returns-then-self-ne0 c =
     let n = c.args.variables in
     let all : length f.marks ≡ 8 = search rules in
     let bare = ne_eqb (length (machine f).trials) 0 (λ e. omega (arith, trials_are f all, c.if-self-ne0.true)) in
-    record { starts = (rw (ne_eqb n 0 c.if-variables-eq0.false, le-ltb 200 n c.if-variables-gt-MOST-VARIABLES.false, bare), refl); lives = tt }
+    record { starts = (rw (ne_eqb n 0 c.if-variables-eq0.false, le-ltb 200 n c.if-variables-gt-MOST_VARIABLES.false, bare), refl); lives = tt }
 
-pub invariant-of-self : goal.invariant-of-self
+pub invariant_of-self : goal.invariant_of-self
 unfolding rises last_of
-invariant-of-self c = search rules
+invariant_of-self c = search rules
 
 pub returns : goal.returns
 unfolding machine machine_in standing parts

@@ -11,8 +11,8 @@ head_is (u ∷ C) t d l e = ap Some (sym e)
 
 pub returns : goal.returns
 returns c =
-    let z = c.in-ok-first.ensures.item in
-    let t = c.in-ok-first.field-0.now in
+    let z = c.in_ok-first.ensures.item in
+    let t = c.in_ok-first.field-0.now in
     let fit : SFits w32 t = search rules in
     let e : Enters (machine c.args.file.now) (t ∷ []) (machine c.enter.new.self) c.enter.result = simp to_z-of_z at c.enter.ensures in
-    (t, ap head_of c.in-ok-part.ensures ∙ head_is _ t (pos 0) z.3.0 (z.3.1 (pos 0)), e)
+    (t, ap head_of c.in_ok-part.ensures ∙ head_is _ t (pos 0) z.3.0 (z.3.1 (pos 0)), e)

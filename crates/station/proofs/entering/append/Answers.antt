@@ -14,23 +14,23 @@ returns-then-hand c =
     let full : length h.kept ≡ 25 = search rules in
     λ ts g. record { same_lits = refl; same_ends = refl; refused = is_bad c.args.n _ _ _ h full c.told-lits c.told-ends c.requires ts g c.if-n-eq0.false c.if-hand.true }
 
-pub returns-then-hand-gt-MOST-DIFFERENT : goal.returns-then-hand-gt-MOST-DIFFERENT
-returns-then-hand-gt-MOST-DIFFERENT c =
+pub returns-then-hand-gt-MOST_DIFFERENT : goal.returns-then-hand-gt-MOST_DIFFERENT
+returns-then-hand-gt-MOST_DIFFERENT c =
     let h = c.args.hand.now in
     let full : length h.kept ≡ 25 = search rules in
-    λ ts g. record { same_lits = refl; same_ends = refl; refused = is_wide c.args.n _ _ _ h full c.told-lits c.told-ends c.requires ts g c.if-n-eq0.false c.if-hand.false c.if-hand-gt-MOST-DIFFERENT.true }
+    λ ts g. record { same_lits = refl; same_ends = refl; refused = is_wide c.args.n _ _ _ h full c.told-lits c.told-ends c.requires ts g c.if-n-eq0.false c.if-hand.false c.if-hand-gt-MOST_DIFFERENT.true }
 
-pub returns-then-counts-ge-MOST-CLAUSES : goal.returns-then-counts-ge-MOST-CLAUSES
-returns-then-counts-ge-MOST-CLAUSES c =
+pub returns-then-counts-ge-MOST_CLAUSES : goal.returns-then-counts-ge-MOST_CLAUSES
+returns-then-counts-ge-MOST_CLAUSES c =
     let h = c.args.hand.now in
     let full : length h.kept ≡ 25 = search rules in
-    λ ts g. record { same_lits = refl; same_ends = refl; refused = is_full c.args.n _ _ _ h full c.told-lits c.told-ends c.requires ts g c.if-n-eq0.false c.if-hand.false c.if-hand-gt-MOST-DIFFERENT.false c.if-counts-ge-MOST-CLAUSES.true }
+    λ ts g. record { same_lits = refl; same_ends = refl; refused = is_full c.args.n _ _ _ h full c.told-lits c.told-ends c.requires ts g c.if-n-eq0.false c.if-hand.false c.if-hand-gt-MOST_DIFFERENT.false c.if-counts-ge-MOST_CLAUSES.true }
 
-pub returns-then-to-gt-MOST-LITERALS : goal.returns-then-to-gt-MOST-LITERALS
-returns-then-to-gt-MOST-LITERALS c =
+pub returns-then-to-gt-MOST_LITERALS : goal.returns-then-to-gt-MOST_LITERALS
+returns-then-to-gt-MOST_LITERALS c =
     let h = c.args.hand.now in
     let full : length h.kept ≡ 25 = search rules in
-    λ ts g. record { same_lits = refl; same_ends = refl; refused = is_long c.args.n _ _ _ h full c.told-lits c.told-ends c.requires ts g c.if-n-eq0.false c.if-hand.false c.if-hand-gt-MOST-DIFFERENT.false c.if-counts-ge-MOST-CLAUSES.false c.if-to-gt-MOST-LITERALS.true }
+    λ ts g. record { same_lits = refl; same_ends = refl; refused = is_long c.args.n _ _ _ h full c.told-lits c.told-ends c.requires ts g c.if-n-eq0.false c.if-hand.false c.if-hand-gt-MOST_DIFFERENT.false c.if-counts-ge-MOST_CLAUSES.false c.if-to-gt-MOST_LITERALS.true }
 
 pub loop-i-preserved : goal.loop-i-preserved
 loop-i-preserved c =
@@ -58,9 +58,9 @@ returns c =
     let t : take (k.literals + h.len) c.loop-i.lits ≡ take k.literals c.args.lits.now ++ K = rw e at v.1 in
     λ ts g.
     let r : every (names n) ts ≡ true = straight (every (names n) ts) (sym g.range ∙ c.if-hand.false) in
-    let m = all_of n c.args.lits.now c.args.ends.now k h full c.told-lits c.told-ends c.requires ts g c.if-n-eq0.false c.if-hand.false c.if-hand-gt-MOST-DIFFERENT.false in
-    let fine = is_fine n c.args.lits.now c.args.ends.now k h full c.told-lits c.told-ends c.requires ts g c.if-n-eq0.false c.if-hand.false c.if-hand-gt-MOST-DIFFERENT.false c.if-counts-ge-MOST-CLAUSES.false c.if-to-gt-MOST-LITERALS.false in
-    added n c.args.lits.now c.loop-i.lits c.args.ends.now k K (k.literals + h.len) c.told-lits c.told-ends c.requires c.if-counts-ge-MOST-CLAUSES.false c.if-to-gt-MOST-LITERALS.false long t ts r m fine
+    let m = all_of n c.args.lits.now c.args.ends.now k h full c.told-lits c.told-ends c.requires ts g c.if-n-eq0.false c.if-hand.false c.if-hand-gt-MOST_DIFFERENT.false in
+    let fine = is_fine n c.args.lits.now c.args.ends.now k h full c.told-lits c.told-ends c.requires ts g c.if-n-eq0.false c.if-hand.false c.if-hand-gt-MOST_DIFFERENT.false c.if-counts-ge-MOST_CLAUSES.false c.if-to-gt-MOST_LITERALS.false in
+    added n c.args.lits.now c.loop-i.lits c.args.ends.now k K (k.literals + h.len) c.told-lits c.told-ends c.requires c.if-counts-ge-MOST_CLAUSES.false c.if-to-gt-MOST_LITERALS.false long t ts r m fine
   where
     straight : (b : Bool) → not b ≡ false → b ≡ true
     straight true e = refl

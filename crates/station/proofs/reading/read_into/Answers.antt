@@ -13,44 +13,44 @@ pub returns-then-n-eq0 : goal.returns-then-n-eq0
 unfolding machine_in
 returns-then-n-eq0 c = record { sound = c.requires; reads = λ number trials. (not_started _ c.args.text.now c.if-n-eq0.true, refl) }
 
-pub returns-in-err-declared : goal.returns-in-err-declared
-returns-in-err-declared c =
-    let p = err_from_is_err_and c.from-residual.result c.from-residual.ensures.1 in
-    let e = heading_fault c.args.n c.args.text.now c.args.lits.now c.args.ends.now c.args.counts.now c.if-n-eq0.false _ (rest_of c.heading.new.self) c.over-reader.ensures.all _ c.in-err-declared.ensures.heads in
+pub returns-in_err-declared : goal.returns-in_err-declared
+returns-in_err-declared c =
+    let p = err_from_is_err_and c.from_residual.result c.from_residual.ensures.1 in
+    let e = heading_fault c.args.n c.args.text.now c.args.lits.now c.args.ends.now c.args.counts.now c.if-n-eq0.false _ (rest_of c.heading.new.self) c.over-reader.ensures.all _ c.in_err-declared.ensures.heads in
     let f = fronts_none c.args.counts.now c.args.lits.now c.args.ends.now in
     record { sound = undone_sound _ _ _ _ _ _ _ c.requires f _ (search rules); reads = rw (p.1, p.2) (undone _ _ _ _ _ _ _ c.requires f _ c.args.text.now _ e (search rules)) }
 
-pub returns-in-default : goal.returns-in-default
-returns-in-default c =
-    let e = heading_none c.args.n c.args.text.now c.args.lits.now c.args.ends.now c.args.counts.now c.if-n-eq0.false _ (rest_of c.heading.new.self) c.over-reader.ensures.all _ c.in-ok-declared.ensures.heads c.in-default.is in
+pub returns-in_default : goal.returns-in_default
+returns-in_default c =
+    let e = heading_none c.args.n c.args.text.now c.args.lits.now c.args.ends.now c.args.counts.now c.if-n-eq0.false _ (rest_of c.heading.new.self) c.over-reader.ensures.all _ c.in_ok-declared.ensures.heads c.in_default.is in
     let f = fronts_none c.args.counts.now c.args.lits.now c.args.ends.now in
     record { sound = undone_sound _ _ _ _ _ _ _ c.requires f _ (search rules); reads = undone _ _ _ _ _ _ _ c.requires f _ c.args.text.now _ e (search rules) }
 
 pub loop-t-init : goal.loop-t-init
 loop-t-init c =
-    (refl, refl, refl, heading_on c.args.n c.args.text.now c.args.lits.now c.args.ends.now c.args.counts.now c.if-n-eq0.false _ (rest_of c.heading.new.self) c.over-reader.ensures.all _ c.in-ok-declared.ensures.heads c.in-Some.declared c.in-Some.is c.requires c.empty-hand.result (c.empty-hand.ensures c.args.n))
+    (refl, refl, refl, heading_on c.args.n c.args.text.now c.args.lits.now c.args.ends.now c.args.counts.now c.if-n-eq0.false _ (rest_of c.heading.new.self) c.over-reader.ensures.all _ c.in_ok-declared.ensures.heads c.in-Some.declared c.in-Some.is c.requires c.empty-hand.result (c.empty-hand.ensures c.args.n))
 
-pub returns-in-err-t : goal.returns-in-err-t
-returns-in-err-t c =
+pub returns-in_err-t : goal.returns-in_err-t
+returns-in_err-t c =
     let g = c.loop-t.invariant.3 in
-    let p = err_from_is_err_and c.from-residual-in-err-t.result c.from-residual-in-err-t.ensures.1 in
-    let e = number_fault _ _ _ _ _ _ _ _ _ _ _ _ g (rest_of c.number.new.self) _ c.in-err-t.ensures.counts in
+    let p = err_from_is_err_and c.from_residual-in_err-t.result c.from_residual-in_err-t.ensures.1 in
+    let e = number_fault _ _ _ _ _ _ _ _ _ _ _ _ g (rest_of c.number.new.self) _ c.in_err-t.ensures.counts in
     record { sound = undone_sound _ _ _ _ _ _ _ c.requires g.fronts _ (search rules); reads = rw (p.1, p.2) (undone _ _ _ _ _ _ _ c.requires g.fronts _ c.args.text.now _ e (search rules)) }
 
-pub returns-in-err-guard : goal.returns-in-err-guard
-returns-in-err-guard c =
+pub returns-in_err-guard : goal.returns-in_err-guard
+returns-in_err-guard c =
     let g = c.loop-t.invariant.3 in
     let t = c.in-Some-2.t.value in
     let fit : SFits w32 t = search rules in
     let z : t ≡ pos 0 = sym (to_z-of_z w32 t fit) ∙ ap (to_z w32) c.if-t-eq0.true in
-    let p = err_from_is_err_and c.from-residual-in-err-guard.result c.from-residual-in-err-guard.ensures.1 in
-    let r = c.in-err-guard.ensures g.ts g.holds in
-    let e = zero_refused _ _ _ _ _ _ _ _ _ _ _ _ g (rest_of c.number.new.self) _ c.in-ok-t.ensures.counts c.in-Some-2.t c.in-Some-2.is z _ c.entered-at.new.lits c.entered-at.new.ends r in
+    let p = err_from_is_err_and c.from_residual-in_err-guard.result c.from_residual-in_err-guard.ensures.1 in
+    let r = c.in_err-guard.ensures g.ts g.holds in
+    let e = zero_refused _ _ _ _ _ _ _ _ _ _ _ _ g (rest_of c.number.new.self) _ c.in_ok-t.ensures.counts c.in-Some-2.t c.in-Some-2.is z _ c.entered_at.new.lits c.entered_at.new.ends r in
     let f = fronts_same _ _ _ _ _ _ _ _ r.1.same_lits r.1.same_ends g.fronts in
     record { sound = undone_sound _ _ _ _ _ _ _ c.requires f _ (search rules); reads = rw (p.1, p.2) (undone _ _ _ _ _ _ _ c.requires f _ c.args.text.now _ e (search rules)) }
 
 pub loop-t-smaller-then-t-eq0 : goal.loop-t-smaller-then-t-eq0
-loop-t-smaller-then-t-eq0 c = shorter _ _ _ _ _ _ _ _ _ _ _ _ c.loop-t.invariant.3 (rest_of c.number.new.self) _ c.in-ok-t.ensures.counts c.in-Some-2.t c.in-Some-2.is
+loop-t-smaller-then-t-eq0 c = shorter _ _ _ _ _ _ _ _ _ _ _ _ c.loop-t.invariant.3 (rest_of c.number.new.self) _ c.in_ok-t.ensures.counts c.in-Some-2.t c.in-Some-2.is
 
 pub loop-t-preserved-then-t-eq0 : goal.loop-t-preserved-then-t-eq0
 loop-t-preserved-then-t-eq0 c =
@@ -58,11 +58,11 @@ loop-t-preserved-then-t-eq0 c =
     let t = c.in-Some-2.t.value in
     let fit : SFits w32 t = search rules in
     let z : t ≡ pos 0 = sym (to_z-of_z w32 t fit) ∙ ap (to_z w32) c.if-t-eq0.true in
-    let a = c.in-ok-guard.ensures g.ts g.holds in
-    (refl, refl, refl, zero_added _ _ _ _ _ _ _ _ _ _ _ _ g (rest_of c.number.new.self) _ c.in-ok-t.ensures.counts c.in-Some-2.t c.in-Some-2.is z _ _ _ a _ (c.empty-hand-then-t-eq0.ensures c.args.n))
+    let a = c.in_ok-guard.ensures g.ts g.holds in
+    (refl, refl, refl, zero_added _ _ _ _ _ _ _ _ _ _ _ _ g (rest_of c.number.new.self) _ c.in_ok-t.ensures.counts c.in-Some-2.t c.in-Some-2.is z _ _ _ a _ (c.empty-hand-then-t-eq0.ensures c.args.n))
 
 pub loop-t-smaller : goal.loop-t-smaller
-loop-t-smaller c = shorter _ _ _ _ _ _ _ _ _ _ _ _ c.loop-t.invariant.3 (rest_of c.number.new.self) _ c.in-ok-t.ensures.counts c.in-Some-2.t c.in-Some-2.is
+loop-t-smaller c = shorter _ _ _ _ _ _ _ _ _ _ _ _ c.loop-t.invariant.3 (rest_of c.number.new.self) _ c.in_ok-t.ensures.counts c.in-Some-2.t c.in-Some-2.is
 
 pub loop-t-preserved : goal.loop-t-preserved
 loop-t-preserved c =
@@ -71,18 +71,18 @@ loop-t-preserved c =
     let fit : SFits w32 t = search rules in
     let z : t ≢ pos 0 = λ e. c.if-t-eq0.false (ap (of_z w32) e) in
     let h : Holds c.args.n c.push.new.self (g.ts ++ (t ∷ [])) = simp to_z-of_z at (c.push.ensures g.ts g.holds) in
-    (refl, refl, refl, literal_held _ _ _ _ _ _ _ _ _ _ _ _ g (rest_of c.number.new.self) _ c.in-ok-t.ensures.counts c.in-Some-2.t c.in-Some-2.is z _ h)
+    (refl, refl, refl, literal_held _ _ _ _ _ _ _ _ _ _ _ _ g (rest_of c.number.new.self) _ c.in_ok-t.ensures.counts c.in-Some-2.t c.in-Some-2.is z _ h)
 
-pub returns-in-err-ended : goal.returns-in-err-ended
-returns-in-err-ended c =
+pub returns-in_err-ended : goal.returns-in_err-ended
+returns-in_err-ended c =
     let g = c.loop-t.invariant.3 in
-    let p = err_from_is_err_and c.from-residual-in-err-ended.result c.from-residual-in-err-ended.ensures.1 in
-    let e = at_end _ _ _ _ _ _ _ _ _ _ _ _ g (rest_of c.number.new.self) _ c.in-ok-t.ensures.counts c.in-default-2.is (Err _) c.in-err-ended.ensures in
+    let p = err_from_is_err_and c.from_residual-in_err-ended.result c.from_residual-in_err-ended.ensures.1 in
+    let e = at_end _ _ _ _ _ _ _ _ _ _ _ _ g (rest_of c.number.new.self) _ c.in_ok-t.ensures.counts c.in_default-2.is (Err _) c.in_err-ended.ensures in
     record { sound = undone_sound _ _ _ _ _ _ _ c.requires g.fronts _ (search rules); reads = rw (p.1, p.2) (undone _ _ _ _ _ _ _ c.requires g.fronts _ c.args.text.now _ e (search rules)) }
 
 pub returns : goal.returns
 returns c =
     let g = c.loop-t.invariant.3 in
-    let e = at_end _ _ _ _ _ _ _ _ _ _ _ _ g (rest_of c.number.new.self) _ c.in-ok-t.ensures.counts c.in-default-2.is (Ok tt) c.in-ok-ended.ensures in
+    let e = at_end _ _ _ _ _ _ _ _ _ _ _ _ g (rest_of c.number.new.self) _ c.in_ok-t.ensures.counts c.in_default-2.is (Ok tt) c.in_ok-ended.ensures in
     let k = c.loop-t.guard.counts.now in
     record { sound = done_sound _ _ _ k _ g.sound (search rules); reads = done_all _ _ _ k _ _ _ e (search rules) }

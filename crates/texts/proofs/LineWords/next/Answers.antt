@@ -19,4 +19,4 @@ pub returns : goal.returns
 returns c =
     let r = c.skip.new.self in
     let l : r.at < length r.line.now = omega (arith, c.if-from-line.false) in
-    sym c.skip.ensures.same ∙ ap bytes (next_of_line r.line.now r.at c.word-to-to.result c.word-to-to.ensures l (c.skip.ensures.stops l))
+    sym c.skip.ensures.same ∙ ap bytes (next_of_line r.line.now r.at c.word_to-to.result c.word_to-to.ensures l (c.skip.ensures.stops l))

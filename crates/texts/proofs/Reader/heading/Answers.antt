@@ -12,23 +12,23 @@ use Rattle.texts.proofs.Reader.heading.Goals as goal
 pub loop-p-init : goal.loop-p-init
 loop-p-init c = (refl, passed_none (Before c.args.n) (rest_of c.args.self.now))
 
-pub returns-in-err-p : goal.returns-in-err-p
+pub returns-in_err-p : goal.returns-in_err-p
 unfolding step_before
-returns-in-err-p c =
+returns-in_err-p c =
     let v = c.loop-p.invariant in
-    let g = c.in-err-p.ensures.gives in
-    let p = err_from_is_err_and c.from-residual.result c.from-residual.ensures.1 in
+    let g = c.in_err-p.ensures.gives in
+    let p = err_from_is_err_and c.from_residual.result c.from_residual.ensures.1 in
     record {
       heads = rw (p.1, p.2) (λ s h. passed_takes (Before c.args.n) _ _ _ _ g.1 v.1 s h _ (before c.args.n s h (_, g.0) no_number));
       text = c.next.ensures.text ∙ v.0;
     }
 
-pub returns-in-err-count : goal.returns-in-err-count
-returns-in-err-count c =
+pub returns-in_err-count : goal.returns-in_err-count
+returns-in_err-count c =
     let v = c.loop-p.invariant in
-    let g = gave c.loop-p.self c.next.new.self c.in-ok-p.field-0 c.in-ok-p.ensures.gives c.in-Some.p c.in-Some.is in
-    let b = c.in-err-count.ensures in
-    let p = err_from_is_err_and c.from-residual-in-err-count.result c.from-residual-in-err-count.ensures.1 in
+    let g = gave c.loop-p.self c.next.new.self c.in_ok-p.field-0 c.in_ok-p.ensures.gives c.in-Some.p c.in-Some.is in
+    let b = c.in_err-count.ensures in
+    let p = err_from_is_err_and c.from_residual-in_err-count.result c.from_residual-in_err-count.ensures.1 in
     record {
       heads = rw (p.1, p.2) (λ s h. passed_takes (Before c.args.n) _ _ _ _ g v.1 s h _ (b s h));
       text = c.next.ensures.text ∙ v.0;
@@ -37,8 +37,8 @@ returns-in-err-count c =
 pub returns-in-Some-2 : goal.returns-in-Some-2
 returns-in-Some-2 c =
     let v = c.loop-p.invariant in
-    let g = gave c.loop-p.self c.next.new.self c.in-ok-p.field-0 c.in-ok-p.ensures.gives c.in-Some.p c.in-Some.is in
-    let b = c.in-ok-count.ensures in
+    let g = gave c.loop-p.self c.next.new.self c.in_ok-p.field-0 c.in_ok-p.ensures.gives c.in-Some.p c.in-Some.is in
+    let b = c.in_ok-count.ensures in
     record {
       heads = λ s h. passed_takes (Before c.args.n) _ _ _ _ g v.1 s h _ (b s h ∙ ap (λ (o : Option ℕ). began s (Ok o)) c.in-Some-2.is);
       text = c.next.ensures.text ∙ v.0;
@@ -47,12 +47,12 @@ returns-in-Some-2 c =
 pub loop-p-preserved : goal.loop-p-preserved
 loop-p-preserved c =
     let v = c.loop-p.invariant in
-    let g = gave c.loop-p.self c.next.new.self c.in-ok-p.field-0 c.in-ok-p.ensures.gives c.in-Some.p c.in-Some.is in
-    let b = c.in-ok-count.ensures in
-    (c.next.ensures.text ∙ v.0, passed_more (Before c.args.n) _ _ _ _ g v.1 (λ s h. b s h ∙ ap (λ (o : Option ℕ). began s (Ok o)) c.in-default-2.is))
+    let g = gave c.loop-p.self c.next.new.self c.in_ok-p.field-0 c.in_ok-p.ensures.gives c.in-Some.p c.in-Some.is in
+    let b = c.in_ok-count.ensures in
+    (c.next.ensures.text ∙ v.0, passed_more (Before c.args.n) _ _ _ _ g v.1 (λ s h. b s h ∙ ap (λ (o : Option ℕ). began s (Ok o)) c.in_default-2.is))
 
 pub returns : goal.returns
 returns c =
     let v = c.loop-p.invariant in
-    let g = gave_none c.loop-p.self c.next.new.self c.in-ok-p.field-0 c.in-ok-p.ensures.gives c.in-default.is in
+    let g = gave_none c.loop-p.self c.next.new.self c.in_ok-p.field-0 c.in_ok-p.ensures.gives c.in_default.is in
     record { heads = λ s h. passed_ends (Before c.args.n) _ _ v.1 g.0 s h _ g.1; text = c.next.ensures.text ∙ v.0 }

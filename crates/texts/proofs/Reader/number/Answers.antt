@@ -13,23 +13,23 @@ use Rattle.texts.proofs.Reader.number.Goals as goal
 pub loop-p-init : goal.loop-p-init
 loop-p-init c = (refl, passed_none After (rest_of c.args.self.now))
 
-pub returns-in-err-p : goal.returns-in-err-p
+pub returns-in_err-p : goal.returns-in_err-p
 unfolding step_after
-returns-in-err-p c =
+returns-in_err-p c =
     let v = c.loop-p.invariant in
-    let g = c.in-err-p.ensures.gives in
-    let p = err_from_is_err_and c.from-residual.result c.from-residual.ensures.1 in
+    let g = c.in_err-p.ensures.gives in
+    let p = err_from_is_err_and c.from_residual.result c.from_residual.ensures.1 in
     record {
       counts = rw (p.1, p.2) (λ s h. passed_takes After _ _ _ _ g.1 v.1 s h _ (after s h (_, g.0) no_number));
       text = c.next.ensures.text ∙ v.0;
     }
 
-pub returns-in-err-value : goal.returns-in-err-value
-returns-in-err-value c =
+pub returns-in_err-value : goal.returns-in_err-value
+returns-in_err-value c =
     let v = c.loop-p.invariant in
-    let g = gave c.loop-p.self c.next.new.self c.in-ok-p.field-0 c.in-ok-p.ensures.gives c.in-Some.p c.in-Some.is in
-    let b = c.in-err-value.ensures in
-    let p = err_from_is_err_and c.from-residual-in-err-value.result c.from-residual-in-err-value.ensures.1 in
+    let g = gave c.loop-p.self c.next.new.self c.in_ok-p.field-0 c.in_ok-p.ensures.gives c.in-Some.p c.in-Some.is in
+    let b = c.in_err-value.ensures in
+    let p = err_from_is_err_and c.from_residual-in_err-value.result c.from_residual-in_err-value.ensures.1 in
     record {
       counts = rw (p.1, p.2) (λ s h. passed_takes After _ _ _ _ g v.1 s h _ (b s h));
       text = c.next.ensures.text ∙ v.0;
@@ -38,8 +38,8 @@ returns-in-err-value c =
 pub returns-in-Some-2 : goal.returns-in-Some-2
 returns-in-Some-2 c =
     let v = c.loop-p.invariant in
-    let g = gave c.loop-p.self c.next.new.self c.in-ok-p.field-0 c.in-ok-p.ensures.gives c.in-Some.p c.in-Some.is in
-    let b = c.in-ok-value.ensures in
+    let g = gave c.loop-p.self c.next.new.self c.in_ok-p.field-0 c.in_ok-p.ensures.gives c.in-Some.p c.in-Some.is in
+    let b = c.in_ok-value.ensures in
     let t = c.in-Some-2.value in
     let fit : SFits w32 t = search rules in
     record {
@@ -50,12 +50,12 @@ returns-in-Some-2 c =
 pub loop-p-preserved : goal.loop-p-preserved
 loop-p-preserved c =
     let v = c.loop-p.invariant in
-    let g = gave c.loop-p.self c.next.new.self c.in-ok-p.field-0 c.in-ok-p.ensures.gives c.in-Some.p c.in-Some.is in
-    let b = c.in-ok-value.ensures in
-    (c.next.ensures.text ∙ v.0, passed_more After _ _ _ _ g v.1 (λ s h. b s h ∙ ap (λ (o : Option ℤ). spoke s c.in-Some.p.place (Ok o)) c.in-default-2.is))
+    let g = gave c.loop-p.self c.next.new.self c.in_ok-p.field-0 c.in_ok-p.ensures.gives c.in-Some.p c.in-Some.is in
+    let b = c.in_ok-value.ensures in
+    (c.next.ensures.text ∙ v.0, passed_more After _ _ _ _ g v.1 (λ s h. b s h ∙ ap (λ (o : Option ℤ). spoke s c.in-Some.p.place (Ok o)) c.in_default-2.is))
 
 pub returns : goal.returns
 returns c =
     let v = c.loop-p.invariant in
-    let g = gave_none c.loop-p.self c.next.new.self c.in-ok-p.field-0 c.in-ok-p.ensures.gives c.in-default.is in
+    let g = gave_none c.loop-p.self c.next.new.self c.in_ok-p.field-0 c.in_ok-p.ensures.gives c.in_default.is in
     record { counts = λ s h. passed_ends After _ _ v.1 g.0 s h _ g.1; text = c.next.ensures.text ∙ v.0 }

@@ -20,12 +20,12 @@ pub returns-in-Other : goal.returns-in-Other
 returns-in-Other c =
     let r = c.args.self.now in
     let text = r.text.now in
-    let to = c.word-to.result in
+    let to = c.word_to.result in
     let b = c.cut.new.self in
     let w = c.cut.ensures in
-    let s = c.word-to.ensures in
-    let l = c.requires.0.inside in
-    let n = c.requires.0.begins in
+    let s = c.word_to.ensures in
+    let l = c.requires.at_word.inside in
+    let n = c.requires.at_word.begins in
     let o = c.in-Other.ensures in
     let word = c.cut.result.now in
     let first : get_or word 0 0 ≡ get_or text r.at 0 = ap (λ z. get_or z 0 0) w.part ∙ first_of ends_word text r.at to s l n in

@@ -9,6 +9,6 @@ returns c =
     let w = c.cut-word.ensures in
     let word = c.cut-word.result.now in
     record {
-      cuts = cuts_by r b r.at word (passed_word r.fresh r.text.now r.at c.word-to-to.result c.word-to-to.ensures c.requires.0.inside c.requires.0.begins c.requires.1 word w.part b.fresh b.at b.text.now w.fresh w.at w.text) c.number-at.result c.number-at.ensures;
+      cuts = cuts_by r b r.at word (passed_word r.fresh r.text.now r.at c.word_to-to.result c.word_to-to.ensures c.requires.at_word.inside c.requires.at_word.begins c.requires.plain word w.part b.fresh b.at b.text.now w.fresh w.at w.text) c.number_at.result c.number_at.ensures;
       text = w.text;
     }

@@ -1,4 +1,4 @@
-use Rattle.std.proofs.Common.{◌≡◌, ◌+◌, ◌-◌, ◌*◌, ◌^◌, ◌<◌, ◌≤◌, ◌⊎◌, get_or, sym, ◌∙◌, inl, inr, ⊎_elim, add-one, arith}
+use Rattle.std.proofs.Common.{◌≡◌, ◌+◌, ◌*◌, ◌^◌, ◌<◌, ◌≤◌, ◌⊎◌, get_or, sym, ◌∙◌, inl, inr, ⊎_elim, add-one, arith}
 use native.Mathlib.Nat.{pow-succ', pow-le-pow_right}
 use Rattle.texts.proofs.Digits.{bad_length, bad_digit, good_digits, digits_more, digits_broken, digits_done, value_more, value_done}
 use Rattle.texts.proofs.numbers.natural.Goals as goal

@@ -11,8 +11,8 @@ pub returns : goal.returns
 returns g c =
     let took = g.S.Sink.took in
     let s = c.args.sink.now in
-    let n = c.unsigned-abs.result in
-    let v = c.unsigned-abs.ensures.value in
+    let n = c.unsigned_abs.result in
+    let v = c.unsigned_abs.ensures.value in
     let t = ap signed_decimal (to_z-of_z w32 c.args.t c.ranges.t) in
     elim c.if-t-lt0.branch [
       | then-t-lt0 w ↦

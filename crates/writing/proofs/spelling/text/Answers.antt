@@ -8,7 +8,7 @@ use Rattle.writing.proofs.Pieces.{clauses_more, text_parts}
 use Rattle.writing.proofs.spelling.text.Goals as goal
 
 pub unreachable-requires : goal.unreachable-requires
-unreachable-requires g c = numbered_there (machine c.args.file.now).clauses (c.loop-i.i + 1) (omega arith) (omega arith) c.in-default.ensures
+unreachable-requires g c = numbered_there (machine c.args.file.now).clauses (c.loop-i.i + 1) (omega arith) (omega arith) c.in_default.ensures
 
 pub loop-i-init : goal.loop-i-init
 unfolding clause_texts

@@ -3,11 +3,11 @@ use Rattle.orders.specs.Listing.{list_of}
 use Rattle.orders.proofs.Adding.{preferred, completed}
 use Rattle.orders.proofs.by_preference.ByPreference.new.Goals as goal
 
-pub invariant-of-result : goal.invariant-of-result
-invariant-of-result c =
+pub invariant_of-result : goal.invariant_of-result
+invariant_of-result c =
     let p = c.prefer.new.self in
     let q = c.complete.new.self in
-    (completed p.size q.size (list_of p) (list_of q) c.complete.ensures.sized c.complete.ensures.added, tt)
+    record { whole = completed p.size q.size (list_of p) (list_of q) c.complete.ensures.sized c.complete.ensures.added }
 
 pub returns : goal.returns
 returns c =

@@ -10,8 +10,8 @@ bounds-self-self c =
     let m = tally_misses t.size (take t.len t.list) c.args.number (omega arith) (omega arith) (sym c.if-has.ensures) in
     omega (arith, m, t.distinct, t.small)
 
-pub invariant-of-self : goal.invariant-of-self
-invariant-of-self c =
+pub invariant_of-self : goal.invariant_of-self
+invariant_of-self c =
     let t = c.args.self.now in
     let xs = t.list in
     let p = c.args.number in
@@ -23,7 +23,7 @@ invariant-of-self c =
     let d : tally t.size (take (t.len + 1) (set xs t.len p)) ≡ t.len + 1 =
     ap (tally t.size) e ∙ (tally_push t.size (take t.len xs) p (omega arith) (omega arith) f ∙ ap (λ k. k + 1) t.distinct) in
     let l = length-set xs t.len p in
-    (t.small, (omega arith, (d, tt)))
+    record { small = t.small; within = omega arith; distinct = d }
 
 pub returns : goal.returns
 returns c =

@@ -6,13 +6,13 @@ use Rattle.orders.proofs.listing.Listing.has.Goals as goal
 
 pub returns-then-v-variable : goal.returns-then-v-variable
 returns-then-v-variable c =
-    let e = holds_at c.as-slice-v-items.result.now c.loop-v.v-index c.args.variable c.loop-v-test.true c.if-v-variable.true in
-    sym e ∙ ap (λ xs. holds xs c.args.variable) c.as-slice-v-items.ensures
+    let e = holds_at c.as_slice-v-items.result.now c.loop-v.v-index c.args.variable c.loop-v-test.true c.if-v-variable.true in
+    sym e ∙ ap (λ xs. holds xs c.args.variable) c.as_slice-v-items.ensures
 
 pub loop-v-preserved : goal.loop-v-preserved
-loop-v-preserved c = not_yet c.as-slice-v-items.result.now c.loop-v.v-index c.args.variable c.loop-v-test.true c.if-v-variable.false c.loop-v.invariant
+loop-v-preserved c = not_yet c.as_slice-v-items.result.now c.loop-v.v-index c.args.variable c.loop-v-test.true c.if-v-variable.false c.loop-v.invariant
 
 pub returns : goal.returns
 returns c =
-    let e = take_all c.loop-v.v-index c.as-slice-v-items.result.now c.loop-v-test.false in
-    sym c.loop-v.invariant ∙ ap (λ xs. holds xs c.args.variable) (e ∙ c.as-slice-v-items.ensures)
+    let e = take_all c.loop-v.v-index c.as_slice-v-items.result.now c.loop-v-test.false in
+    sym c.loop-v.invariant ∙ ap (λ xs. holds xs c.args.variable) (e ∙ c.as_slice-v-items.ensures)

@@ -4,8 +4,8 @@ use Rattle.records.specs.Line.{steps_in}
 use Rattle.records.proofs.Steps.{exact_none}
 use Rattle.records.proofs.lines.Lines.new.Goals as goal
 
-pub invariant-of-result : goal.invariant-of-result
-invariant-of-result c = (omega arith, (exact_none c.args.bytes.now, tt))
+pub invariant_of-result : goal.invariant_of-result
+invariant_of-result c = record { fits = omega arith; exact = exact_none c.args.bytes.now }
 
 pub returns : goal.returns
 unfolding steps_in

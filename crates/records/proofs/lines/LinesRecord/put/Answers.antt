@@ -6,15 +6,15 @@ use Rattle.records.proofs.Putting.{put_into}
 use Rattle.records.proofs.Steps.{Exact, copied_more, exact_same, exact_more, stored}
 use Rattle.records.proofs.lines.LinesRecord.put.Goals as goal
 
-pub invariant-of-self : goal.invariant-of-self
-invariant-of-self c =
+pub invariant_of-self : goal.invariant_of-self
+invariant_of-self c =
     let bs = c.loop-i.self.bytes.now in
     let u = c.loop-i.self.used in
     let at = c.args.self.now.used * 28 + c.loop-i.i in
     let b = get_or c.write-text.result c.loop-i.i 0 in
     let h : u * 28 ≤ at = omega (arith, c.loop-i.invariant.0) in
     let l = length-set bs at b in
-    (omega (arith, l, c.loop-i.self.fits), (exact_same u (set bs at b) bs (take-set-le (u * 28) bs at b h) c.loop-i.self.exact, tt))
+    record { fits = omega (arith, l, c.loop-i.self.fits); exact = exact_same u (set bs at b) bs (take-set-le (u * 28) bs at b h) c.loop-i.self.exact }
 
 pub loop-i-preserved : goal.loop-i-preserved
 loop-i-preserved c =
@@ -30,8 +30,8 @@ loop-i-preserved c =
     let b : at + i < at + 28 = omega arith in
     (v.0, v.1, length-set bs (at + i) (get_or text i 0) ∙ v.2, copied_more at i bs es text h k v.3, drop-set-lt (at + 28) bs (at + i) (get_or text i 0) b ∙ v.4)
 
-pub invariant-of-self-2 : goal.invariant-of-self-2
-invariant-of-self-2 c =
+pub invariant_of-self-2 : goal.invariant_of-self-2
+invariant_of-self-2 c =
     let v = c.loop-i.invariant in
     let t = c.args.self.now in
     let bs = c.loop-i.self.bytes.now in
@@ -41,7 +41,7 @@ invariant-of-self-2 c =
     let e : take (t.used * 28 + 28) bs ≡ take (t.used * 28) t.bytes.now ++ take 28 text = let i28 : c.loop-i.i ≡ 28 = omega arith in simp i28 at v.3 in
     let x : Exact (c.loop-i.self.used + 1) bs =
     simp v.0 (exact_more t.used bs t.bytes.now text c.args.step tl le e c.write-text.ensures.read_back c.write-text.ensures.written t.exact) in
-    (omega (arith, v.0, v.2, t.fits), (x, tt))
+    record { fits = omega (arith, v.0, v.2, t.fits); exact = x }
 
 pub returns : goal.returns
 returns c =
