@@ -8,7 +8,7 @@ use Rattle.model.specs.Machine.{clause_at}
 use Rattle.model.specs.Checking.{named}
 use Rattle.model.proofs.Numbered.{numbered_each}
 use Rattle.clauses.specs.declared.LiteralSet.{LiteralSet}
-use Rattle.clauses.specs.Sets.{member, Holds, named as in-clause}
+use Rattle.clauses.specs.Sets.{member, Holds, named as in_clause}
 use Rattle.clauses.proofs.Members.{holds_named}
 use Rattle.station.specs.declared.StationFile.{StationFile}
 use Rattle.station.specs.Views.{machine}
@@ -60,7 +60,7 @@ no_step sets Ds zero h l = tt
 no_step sets Ds (suc k) h l = found_none (slice_get Ds k) (past_nth Ds k (omega (arith, held_length sets Ds h)))
 
 -- the set of a clause that stands in a file
-pub holds_shown : (f : StationFile) (k : ℕ) (C : Clause) (s : LiteralSet) → clause_at (machine f).clauses k ≡ Some C → ((u : ℤ) → member s u ≡ in-clause C u) → Holds s C
+pub holds_shown : (f : StationFile) (k : ℕ) (C : Clause) (s : LiteralSet) → clause_at (machine f).clauses k ≡ Some C → ((u : ℤ) → member s u ≡ in_clause C u) → Holds s C
 holds_shown f k C s e h =
     let within = numbered_each (λ D. (t : ℤ) → t ∈ D → Within (machine f).variables t) (machine f).clauses k C (over_file f) e in
     let few = small_file f in

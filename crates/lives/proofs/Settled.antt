@@ -80,9 +80,9 @@ module _ (m : Machine) (o : OrderMeaning) (rec : RecordMeaning) where
       let ls = long m.variables (length-replicate m.variables 2) s.2 in
       let a = told_alike m.variables (takes_all rec.room p.0) p.1 s.1 A B lp ls c.1 in
       let t : takes_all rec.room p.0 ≡ takes_all rec.room s.0 = ap (takes_all rec.room) c.0 in
-      let r-is : r₂ ≡ (told (takes_all rec.room p.0) s.1 B).0 = s.4 ∙ ap (λ (x : Bool). (told x s.1 B).0) (sym t) in
+      let r_is : r₂ ≡ (told (takes_all rec.room p.0) s.1 B).0 = s.4 ∙ ap (λ (x : Bool). (told x s.1 B).0) (sym t) in
       let B-is : B' ≡ (told (takes_all rec.room p.0) s.1 B).1 = s.5 ∙ ap (λ (x : Bool). (told x s.1 B).1) (sym t) in (
-        p.4 ∙ a.0 ∙ sym r-is,
+        p.4 ∙ a.0 ∙ sym r_is,
         p.3 ∙ ap (noted rec) c.0 ∙ sym s.3,
         (λ e. ap (take m.variables) p.5 ∙ a.1 (sym p.4 ∙ e) ∙ ap (take m.variables) (sym B-is)),
         λ e. p.5 ∙ a.2 e ∙ sym B-is,

@@ -44,11 +44,11 @@ dec_some {A} P dec (y ∷ ys) = both (dec y) (dec_some P dec ys)
     both (no n) (yes q) = yes (q.0, inr q.1, q.2)
     both (no n) (no m) = no (λ s. lower n m s.0 s.1 s.2)
 
-all-false? : (σ : Setting) (C : Clause) → Dec (AllFalse σ C)
-all-false? σ C = dec_each (λ t. value σ t ≡ 0) (λ t. number? (value σ t) 0) C
+all_false? : (σ : Setting) (C : Clause) → Dec (AllFalse σ C)
+all_false? σ C = dec_each (λ t. value σ t ≡ 0) (λ t. number? (value σ t) 0) C
 
-some-true? : (σ : Setting) (C : Clause) → Dec (SomeTrue σ C)
-some-true? σ C = dec_some (λ t. value σ t ≡ 1) (λ t. number? (value σ t) 1) C
+some_true? : (σ : Setting) (C : Clause) → Dec (SomeTrue σ C)
+some_true? σ C = dec_some (λ t. value σ t ≡ 1) (λ t. number? (value σ t) 1) C
 
 dec-× : {A B : Type 0} → Dec A → Dec B → Dec (A × B)
 dec-× (yes a) (yes b) = yes (a, b)
@@ -64,8 +64,8 @@ dec-¬ : {A : Type 0} → Dec A → Dec (¬ A)
 dec-¬ (yes a) = no (λ n. n a)
 dec-¬ (no n) = yes n
 
-some-unit? : (σ : Setting) (C : Clause) → Dec (SomeUnit σ C)
-some-unit? σ C = again (dec_some Lone lone? C)
+some_unit? : (σ : Setting) (C : Clause) → Dec (SomeUnit σ C)
+some_unit? σ C = again (dec_some Lone lone? C)
   where
     Rest : ℤ → ℤ → Type 0
     Rest t u = u ≢ t → value σ u ≡ 0
@@ -182,7 +182,7 @@ entry_two σ (negsuc k) e = flipped_two (get_or σ k 0) e
 -- where nothing is decided, some literal is unset
 pub unset_literal : (n : ℕ) (σ : Setting) (F : List Clause) → Over n F → Low σ → NoneOf (AllFalse σ) F → (Each (SomeTrue σ) F → ⊥) → (t : ℤ) × Within n t × (value σ t ≡ 2)
 unset_literal n σ [] o l c u = absurd (u tt)
-unset_literal n σ (C ∷ F) o l c u = at (some-true? σ C) (dec_some (λ t. value σ t ≡ 2) (λ t. number? (value σ t) 2) C) (λ e. unset_literal n σ F o.1 l c.1 e)
+unset_literal n σ (C ∷ F) o l c u = at (some_true? σ C) (dec_some (λ t. value σ t ≡ 2) (λ t. number? (value σ t) 2) C) (λ e. unset_literal n σ F o.1 l c.1 e)
   where
     at : Dec (SomeTrue σ C) → Dec ((t : ℤ) × Member t C × (value σ t ≡ 2)) → ((Each (SomeTrue σ) F → ⊥) → (t : ℤ) × Within n t × (value σ t ≡ 2)) → (t : ℤ) × Within n t × (value σ t ≡ 2)
     at (yes p) d rest = rest (λ e. u (p, e))
@@ -198,7 +198,7 @@ unset_literal n σ (C ∷ F) o l c u = at (some-true? σ C) (dec_some (λ t. val
 
 dec_all_true : (σ : Setting) (F : List Clause) → Dec (Each (SomeTrue σ) F)
 dec_all_true σ [] = yes tt
-dec_all_true σ (C ∷ F) = dec-× (some-true? σ C) (dec_all_true σ F)
+dec_all_true σ (C ∷ F) = dec-× (some_true? σ C) (dec_all_true σ F)
 
 module _ (n : ℕ) (F : List Clause) (order : List ℕ) (over : Over n F) (covers : (k : ℕ) → 0 < k → k ≤ n → Member k order) where
   Ended : Setting → ℕ → Type 0
@@ -248,7 +248,7 @@ module _ (n : ℕ) (F : List Clause) (order : List ℕ) (over : Over n F) (cover
 
     turn : Ended σ m
     unfolding Ended
-    turn = at (first_or_none (AllFalse σ) (all-false? σ) F) (first_or_none (SomeUnit σ) (some-unit? σ) F) (dec_all_true σ F)
+    turn = at (first_or_none (AllFalse σ) (all_false? σ) F) (first_or_none (SomeUnit σ) (some_unit? σ) F) (dec_all_true σ F)
       where
         at : ((k : ℕ) × (C : Clause) × First (AllFalse σ) F k C) ⊎ NoneOf (AllFalse σ) F → ((k : ℕ) × (C : Clause) × First (SomeUnit σ) F k C) ⊎ NoneOf (SomeUnit σ) F
             → Dec (Each (SomeTrue σ) F) → Ended σ m
@@ -274,6 +274,6 @@ ends_from n F order over covers σ m l = goes_on n F order over covers (vacant �
 
 -- the search from the start; where the clauses and the order are written out, it computes
 unfoldable pub ends : Ends
-unfolding decided number? literal? dec_each dec_some all-false? some-true? dec-× dec-→ dec-¬ some-unit? first_or_none member? chosen_or_none
+unfolding decided number? literal? dec_each dec_some all_false? some_true? dec-× dec-→ dec-¬ some_unit? first_or_none member? chosen_or_none
     without resolves joined_exists back_exists dec_all_true Ended chooses under by_choice by_unit turn goes_on ends_from first_holds
 ends n F order over covers = ends_from n F order over covers (unset n) 0 (low_unset n)

@@ -5,7 +5,7 @@ use Rattle.model.specs.Search.{Setting, value, AllFalse, UnitOn, SomeUnit, SomeT
 use Rattle.clauses.specs.declared.Literal.{Literal}
 use Rattle.clauses.specs.Sets.{code}
 use Rattle.scan.specs.declared.Test.{Test}
-use Rattle.scan.specs.declared.Test.TheVariants.{AllFalse as all-false, Unit as unit, SomeTrue as some-true, Open as neither}
+use Rattle.scan.specs.declared.Test.TheVariants.{AllFalse as all_false, Unit as unit, SomeTrue as some_true, Open as neither}
 use Rattle.scan.specs.declared.Scan.{Scan}
 use Rattle.scan.specs.declared.Scan.TheVariants.{Conflict, Forced, Satisfied, Undecided as undecided}
 use Rattle.scan.specs.Tests.{Tested, SomeUnset, Scanned, added}
@@ -77,17 +77,17 @@ module _ (σ : Setting) where
 
     pub added_scanned : (k : ℕ) (s : Scan) (r : Test) → k ≡ length F + 1 → Tested σ C r → Scanned σ F s → Scanned σ (F ++ C ∷ []) (added s k r)
     added_scanned k (Conflict j) r e t (D, h) = (D, first_more (AllFalse σ) (C ∷ []) h)
-    added_scanned k (Forced j u) all-false e t h = clash k e h.0 t
+    added_scanned k (Forced j u) all_false e t h = clash k e h.0 t
     added_scanned k (Forced j u) (unit w) e t h = still j u (unset_not_false C (code w, t.0, t.1)) h
-    added_scanned k (Forced j u) some-true e t h = still j u (true_not_false C t) h
+    added_scanned k (Forced j u) some_true e t h = still j u (true_not_false C t) h
     added_scanned k (Forced j u) neither e t h = still j u (unset_not_false C t.0) h
-    added_scanned k Satisfied all-false e t h = clash k e (sat_false h) t
+    added_scanned k Satisfied all_false e t h = clash k e (sat_false h) t
     added_scanned k Satisfied (unit u) e t h = force k u e (sat_false h) (sat_units h) t
-    added_scanned k Satisfied some-true e t h = each_push (SomeTrue σ) F C h t
+    added_scanned k Satisfied some_true e t h = each_push (SomeTrue σ) F C h t
     added_scanned k Satisfied neither e t h = pends (sat_false h) (sat_units h) (unset_not_false C t.0) t.2 (λ a. t.1 (each_last (SomeTrue σ) F C a))
-    added_scanned k undecided all-false e t h = clash k e h.no_conflict t
+    added_scanned k undecided all_false e t h = clash k e h.no_conflict t
     added_scanned k undecided (unit u) e t h = force k u e h.no_conflict h.no_unit t
-    added_scanned k undecided some-true e t h = pends h.no_conflict h.no_unit (true_not_false C t) (true_not_unit C t) (λ a. h.unfinished (each_front (SomeTrue σ) F C a))
+    added_scanned k undecided some_true e t h = pends h.no_conflict h.no_unit (true_not_false C t) (true_not_unit C t) (λ a. h.unfinished (each_front (SomeTrue σ) F C a))
     added_scanned k undecided neither e t h = pends h.no_conflict h.no_unit (unset_not_false C t.0) t.2 (λ a. h.unfinished (each_front (SomeTrue σ) F C a))
 
   -- a clause that is false stays the first, whatever follows

@@ -3,7 +3,7 @@ use Rattle.std.proofs.Common.{◌≡◌, ◌≢◌, [], ◌∷◌, ◌++◌, ℤ
 use Rattle.model.specs.Clauses.{Clause, ◌∈◌}
 use Rattle.model.specs.Search.{Setting, value, AllFalse, UnitOn, SomeUnit, SomeTrue}
 use Rattle.scan.specs.declared.Test.{Test}
-use Rattle.scan.specs.declared.Test.TheVariants.{AllFalse as all-false, Unit as unit, SomeTrue as some-true, Open as neither}
+use Rattle.scan.specs.declared.Test.TheVariants.{AllFalse as all_false, Unit as unit, SomeTrue as some_true, Open as neither}
 use Rattle.scan.specs.Tests.{Tested, SomeUnset}
 use Rattle.clauses.specs.Sets.{code}
 use Rattle.model.proofs.Members.{in_left, in_last, in_pushed}
@@ -47,9 +47,9 @@ module _ (σ : Setting) (C : Clause) (t : ℤ) where
   unset_more (u, h, e) = (u, in_left u C (t ∷ []) h, e)
 
   pub tested_false : (r : Test) → value σ t ≡ 0 → Tested σ C r → Tested σ (C ++ t ∷ []) r
-  tested_false all-false e h = false_more e h
+  tested_false all_false e h = false_more e h
   tested_false (unit u) e h = unit_more (code u) e h
-  tested_false some-true e h = true_more h
+  tested_false some_true e h = true_more h
   tested_false neither e (a, b, d) = (unset_more a, no_true_more (λ q. omega (arith, q, e)) b, no_unit_more a d)
 
   pub open_more : value σ t ≡ 2 → Tested σ C neither → Tested σ (C ++ t ∷ []) neither

@@ -254,7 +254,7 @@ module _ (run : Run) (m : Machine) (rec : RecordMeaning) (p : Position) (f : Fra
           logged = s.logged;
         } in
         subst (λ (z : Position). Stepped run m p rec z f (Ok Failing)) (sym same) (q, l.0, l.1)
-    past_on p' Turned (has, (mark, lit, off-why, moved)) =
+    past_on p' Turned (has, (mark, lit, off_why, moved)) =
         let y = last_on F order n p.marks rest p.frames x last s.entries s.way s.held why in
         let v = y.view in
         let e : set p.settings x.literal.index 2 ≡ v.σ = unset_again x.literal v.σ p.settings (on y.k) y.lit_is v.set_is (chosen_unset v.chosen) in
@@ -266,10 +266,10 @@ module _ (run : Run) (m : Machine) (rec : RecordMeaning) (p : Position) (f : Fra
           entries = off_side y.k f.by s.D ∷ y.T;
           done = s.done ++ s.ss;
           way = subst (λ (σ : Setting). Way F order n (off_side y.k f.by s.D ∷ y.T) σ (s.done ++ s.ss)) (sym set_is) (off_here v.way v.undecided v.chosen b speaks);
-          held = (rest, mark, refl, lit ∙ other, off-why, p.frames, f, refl, refl, s.holds, y.held);
+          held = (rest, mark, refl, lit ∙ other, off_why, p.frames, f, refl, refl, s.holds, y.held);
           logged = s.logged;
         } in
-        subst (λ (z : Position). Stepped run m p rec z f (Ok Turned)) (sym moved) (q, turned_weight n p.marks rest x mark last why off-why)
+        subst (λ (z : Position). Stepped run m p rec z f (Ok Turned)) (sym moved) (q, turned_weight n p.marks rest x mark last why off_why)
 
   -- whatever set it, the literal is of one of the variables
   pub top_index : x.literal.index < n

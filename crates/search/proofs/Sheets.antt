@@ -49,8 +49,8 @@ allowed m o rec sheet trail frames e =
     let a = row_false _ _ _ e in
     let b = row_false _ _ _ a.1 in
     let c = row_false _ _ _ b.1 in
-    let every-long = not-false _ c.0 in
-    let x = both (leb m.variables sheet) _ every-long in
+    let every_long = not-false _ c.0 in
+    let x = both (leb m.variables sheet) _ every_long in
     let y = both (leb m.variables trail) _ x.1 in
     let z = both (leb m.variables frames) _ y.1 in
     record {

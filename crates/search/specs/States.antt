@@ -3,7 +3,7 @@ use Rattle.std.specs.Prelude.{◌≡◌, ℕ, suc, ◌+◌, ◌-◌, ◌^◌, �
 use Rattle.model.specs.declared.Step.{Step}
 use Rattle.model.specs.declared.Reference.TheVariants.{S}
 use Rattle.model.specs.declared.Answer.{Answer}
-use Rattle.model.specs.declared.Answer.TheVariants.{Fits as All-true, Cannot}
+use Rattle.model.specs.declared.Answer.TheVariants.{Fits as AllTrue, Cannot}
 use Rattle.model.specs.declared.Decline.{Decline}
 use Rattle.model.specs.declared.Decline.TheVariants.{RecordFull}
 use Rattle.model.specs.Clauses.{Clause, on, off, opposite}
@@ -167,7 +167,7 @@ Advanced run m p rec' p' (Err d) = Halted run m rec' × (d ≡ RecordFull)
 
 -- the whole search was run
 abbrev pub Ran : Run → Machine → RecordMeaning → Position → Result Answer Decline → Type 0
-Ran run m rec' p' (Ok All-true) = Ended run m rec' (fits p'.settings) × (length p'.settings ≡ m.variables)
+Ran run m rec' p' (Ok AllTrue) = Ended run m rec' (fits p'.settings) × (length p'.settings ≡ m.variables)
 Ran run m rec' p' (Ok (Cannot r)) = (D : Clause) × Ended run m rec' (fails r D)
 Ran run m rec' p' (Err d) = Halted run m rec' × (d ≡ RecordFull)
 

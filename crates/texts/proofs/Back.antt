@@ -118,8 +118,8 @@ module _ (n c : ℕ) (small : n < 1000000) (few : c < 1000000) where
   head_words =
       let k = suc (6 + length (decimal n)) in
       let last : words (k, decimal c) ≡ (k, decimal c) ∷ [] = ap (λ w. words (k, w)) (sym (append-nil (decimal c))) ∙ (words_more k (decimal c) [] (decimal_clear c few ends_word no_word_end) (decimal_filled c few) tt ∙ ap (λ ws. (k, decimal c) ∷ ws) (words_none (k + length (decimal c)))) in
-      let both-counts = words_more 6 (decimal n) (32 ∷ decimal c) (decimal_clear n small ends_word no_word_end) (decimal_filled n small) refl ∙ ap (λ ws. (6, decimal n) ∷ ws) (words_gap (6 + length (decimal n)) 32 (decimal c) refl ∙ last) in
-      (k, ap (λ ws. (0, codes "p") ∷ ((2, codes "cnf") ∷ ws)) both-counts)
+      let both_counts = words_more 6 (decimal n) (32 ∷ decimal c) (decimal_clear n small ends_word no_word_end) (decimal_filled n small) refl ∙ ap (λ ws. (6, decimal n) ∷ ws) (words_gap (6 + length (decimal n)) 32 (decimal c) refl ∙ last) in
+      (k, ap (λ ws. (0, codes "p") ∷ ((2, codes "cnf") ∷ ws)) both_counts)
 
   head_counts : counts (spellings (head_line n c)) ≡ Some (record { variables = n; clauses = c })
   unfolding counts spellings same_bytes
