@@ -99,8 +99,24 @@ fn words_of(number: u8) -> &'static str {
     }
 }
 
+// How a fault of the text is printed: by its place alone, or with its line as well.
+#[derive(Drop)]
+enum Detail {
+    Place,
+    Line,
+}
+
 // Reads the text into a fresh file, as many options as its problem line says, else 1.
 pub fn report(heap: Global, text: &[u8]) -> Result<Printed, AllocError> {
+    report_in(heap, text, Detail::Place)
+}
+
+// As `report`, and a fault of the text comes with its line.
+pub fn report_with_line(heap: Global, text: &[u8]) -> Result<Printed, AllocError> {
+    report_in(heap, text, Detail::Line)
+}
+
+fn report_in(heap: Global, text: &[u8], detail: Detail) -> Result<Printed, AllocError> {
     let mut file = StationFile::new();
     let options = match variables_of(text) {
         Some(n) => n,
@@ -111,23 +127,10 @@ pub fn report(heap: Global, text: &[u8]) -> Result<Printed, AllocError> {
     }
     match file.read(text) {
         Ok(rules) => settled(heap, &file, rules, text.len()),
-        Err(fault) => declined(heap, fault.number(), fault.place(), layer_of(&fault)),
-    }
-}
-
-// As `report`, and a fault of the text comes with its line.
-pub fn report_with_line(heap: Global, text: &[u8]) -> Result<Printed, AllocError> {
-    let mut file = StationFile::new();
-    let options = match variables_of(text) {
-        Some(n) => n,
-        None => 1,
-    };
-    if file.start(options, 1).is_err() {
-        return report(heap, text);
-    }
-    match file.read(text) {
-        Ok(rules) => settled(heap, &file, rules, text.len()),
-        Err(fault) => faulty(heap, text, &fault),
+        Err(fault) => match detail {
+            Detail::Place => declined(heap, fault.number(), fault.place(), layer_of(&fault)),
+            Detail::Line => faulty(heap, text, &fault),
+        },
     }
 }
 
