@@ -4,7 +4,8 @@ ghost use Rattle.model.specs.Declines.{number_of};
 use super::Decline;
 
 impl Decline {
-    // The number under which docs/declines.md lists the cause.
+    // The number under which docs/declines.md lists the cause. No `as` gives it, since the numbers have a gap and two cases carry a step; `number` says more at
+    // a call than `u8::from`.
     pub fn number(self) -> u8
         ensures { result ≡ number_of self }
     {

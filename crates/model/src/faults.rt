@@ -50,9 +50,9 @@ impl ReadFault {
     {
         match *self {
             ReadFault::InText(TextFault::InWord(w)) => w.place,
-            ReadFault::InText(TextFault::Problem(at)) => at,
-            ReadFault::InText(TextFault::Variables(at)) => at,
-            ReadFault::InText(TextFault::Clauses(at)) => at,
+            ReadFault::InText(
+                TextFault::Problem(at) | TextFault::Variables(at) | TextFault::Clauses(at),
+            ) => at,
             ReadFault::InFile(f) => f.place,
         }
     }
