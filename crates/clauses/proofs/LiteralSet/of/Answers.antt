@@ -5,7 +5,7 @@ use Rattle.model.specs.Clauses.{Clause, same, Within}
 use Rattle.clauses.specs.Sets.{code, member, named}
 use Rattle.clauses.specs.declared.LiteralSet.{LiteralSet}
 use Rattle.clauses.proofs.Members.{code_within, named_more, named_other}
-use Rattle.clauses.proofs.LiteralSet.of.Goals.{in-Some, in_default}
+use Rattle.clauses.proofs.LiteralSet.of.Goals.{in-Ok, in_default}
 use Rattle.clauses.proofs.LiteralSet.of.Goals as goal
 
 pub loop-number-preserved : goal.loop-number-preserved
@@ -15,11 +15,11 @@ loop-number-preserved c u =
     let t : ℤ = get_or xs i (pos 0) in
     let f : SFits w32 t = search rules in
     let more : named (take i xs ++ (t ∷ [])) u ≡ named (take (i + 1) xs) u = ap (λ (C : Clause). named C u) (sym (take_more xs i (pos 0) c.loop-number-test.true)) in
-    elim c.match-of.branch [
-      | in-Some w ↦ (
-          let e : code w.in-Some.t ≡ t = w.in-Some.ensures ∙ to_z-of_z w32 t f in
-          let low : w.in-Some.t.index < 256 = search rules in
-          let within = subst (Within 256) e (code_within w.in-Some.t low) in
+    elim c.match-try_from.branch [
+      | in-Ok w ↦ (
+          let e : code w.in-Ok.t ≡ t = w.in-Ok.ensures ∙ to_z-of_z w32 t f in
+          let low : w.in-Ok.t.index < 256 = search rules in
+          let within = subst (Within 256) e (code_within w.in-Ok.t low) in
           ap (λ (s : LiteralSet). member s u) w.set-is
           ∙ named_more c.loop-number.set w.insert.new.self (take i xs) t within (λ v. w.insert.ensures v ∙ ap (λ (x : ℤ). cond (same x v) true (member c.loop-number.set v)) e) c.loop-number.invariant u
           ∙ more)
