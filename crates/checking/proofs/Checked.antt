@@ -1,5 +1,5 @@
 -- One step of checking, and its end.
-use Rattle.std.proofs.Common.{◌≡◌, ℕ, zero, suc, ◌+◌, ◌<◌, ◌≤◌, Bool, true, false, cond, ◌&&◌, eqb, ltb, List, [], ◌∷◌, ◌++◌, length, drop, ℤ, w32, to_z, Some, None, Ok, Err, Option, Result, sym, refl, ap, ◌∙◌, subst, inl, add-one, arith}
+use Rattle.std.proofs.Common.{◌≡◌, ℕ, zero, suc, ◌+◌, ◌<◌, ◌≤◌, Bool, true, false, cond, ◌&&◌, eqb, ltb, List, [], ◌∷◌, ◌++◌, length, drop, ℤ, w32, to_z, Some, None, IsSome, Ok, Err, Option, Result, sym, refl, ap, ◌∙◌, subst, inl, add-one, arith}
 use Rattle.std.proofs.Math.Bool.{and-false}
 use Rattle.std.proofs.lemmas.Int.{to_z_pos}
 use Rattle.std.proofs.lemmas.Bool.{false≢true, and_from, ne_eqb, le-ltb}
@@ -7,7 +7,7 @@ use Rattle.std.specs.List.{slice_get}
 use Rattle.model.specs.declared.Reference.{Reference}
 use Rattle.model.specs.declared.Step.{Step}
 use Rattle.model.specs.declared.Decline.{Decline}
-use Rattle.model.specs.declared.Decline.TheVariants.{NotStarted, FewClausePlaces, NamesNothing, LacksVariable, NotClosing}
+use Rattle.model.specs.declared.Decline.TheVariants.{NotStarted, FewClausePlaces, LacksVariable}
 use Rattle.model.specs.Clauses.{Clause, on, off, opposite, Within, has}
 use Rattle.model.specs.Machine.{Machine, first}
 use Rattle.model.specs.Checking.{named, without, step_clause, at_closing, check_from, either_refusal, check_refusal, Checks}
@@ -81,13 +81,13 @@ next_step [] i s e = absurd (let z : ◌≡◌ {A = ℕ} 0 1 = cc in omega arith
 next_step (x ∷ ss) zero s e = let q : x ≡ s = cc in ap (λ (y : Step). y ∷ ss) q
 next_step (x ∷ ss) (suc i) s e = next_step ss i s e
 
-pub some_step : (ss : List Step) (i : ℕ) → i < length ss → None ≡ step_at ss (i + 1) → ⊥
-some_step ss i l e = look ss i l (rw add-one at e)
+pub some_step : (ss : List Step) (i : ℕ) → i < length ss → IsSome (step_at ss (i + 1))
+some_step ss i l = rw add-one (look ss i l)
   where
-    look : (ss : List Step) (i : ℕ) → i < length ss → None ≡ slice_get ss i → ⊥
-    look [] i l e = omega arith
-    look (s ∷ ss) zero l e = let z : ◌≡◌ {A = ℕ} 0 1 = cc in omega arith
-    look (s ∷ ss) (suc i) l e = look ss i (omega arith) e
+    look : (ss : List Step) (i : ℕ) → i < length ss → IsSome (slice_get ss i)
+    look [] i l = absurd (omega arith)
+    look (s ∷ ss) zero l = refl
+    look (s ∷ ss) (suc i) l = look ss i (omega arith)
 
 all_dropped : (ss : List Step) (i : ℕ) → length ss ≤ i → drop i ss ≡ []
 all_dropped [] zero l = refl

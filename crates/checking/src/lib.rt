@@ -21,7 +21,7 @@ struct Named<'a> {
     earlier: &'a [LiteralSet],
 }
 
-impl<'a> Named<'a> {
+impl Named<'_> {
     // The clause that a reference names.
     fn clause_of(&self, reference: Reference) -> Option<LiteralSet>
         ensures { Finds (machine self.now.file.now).clauses self.now.earlier.now reference result }
@@ -39,7 +39,9 @@ impl<'a> Named<'a> {
         let left = self.clause_of(step.left).ok_or(Decline::NamesNothing(j))?;
         let right = self.clause_of(step.right).ok_or(Decline::NamesNothing(j))?;
         match Literal::try_from(step.variable as i32) {
-            Ok(on) if left.contains(on) && right.contains(on.opposite()) => Ok(left.resolvent(&right, on)),
+            Ok(on) if left.contains(on) && right.contains(on.opposite()) => {
+                Ok(left.resolvent(&right, on))
+            }
             _ => Err(Decline::LacksVariable(j)),
         }
     }
@@ -72,10 +74,9 @@ fn faultless<R: Record>(
     if memory.len() < count {
         return Err(Decline::FewClausePlaces);
     }
+    // By number: the step at i reads every place before its own.
     for i in 0..count {
-        let Some(step) = record.look(i + 1) else {
-            return unreachable();
-        };
+        let step = record.look(i + 1).unwrap();
         let earlier = &memory[..i];
         memory[i] = Named { file, earlier }.resolve(step, i + 1)?;
     }

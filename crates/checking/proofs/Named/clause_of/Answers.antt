@@ -1,9 +1,8 @@
-use Rattle.std.proofs.Common.{◌≡◌, Some, Option, sym, ap, ◌∙◌, subst, arith, rules}
+use Rattle.std.proofs.Common.{◌≡◌, Some, sym, ◌∙◌, subst, arith}
 use Rattle.std.specs.List.{slice_get}
 use Rattle.model.specs.declared.Reference.{Reference}
 use Rattle.model.specs.Checking.{named}
 use Rattle.station.specs.Views.{machine}
-use Rattle.clauses.specs.declared.LiteralSet.{LiteralSet}
 use Rattle.checking.specs.Held.{Found}
 use Rattle.checking.proofs.Held.{copied_at, found_step, found_some, holds_shown}
 use Rattle.checking.proofs.Named.clause_of.Goals as goal

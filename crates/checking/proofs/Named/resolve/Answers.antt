@@ -1,4 +1,4 @@
-use Rattle.std.proofs.Common.{sym, rules}
+use Rattle.std.proofs.Common.{rules}
 use Rattle.checking.proofs.Checked.{no_variable, left_lacks, right_lacks, resolved}
 use Rattle.checking.proofs.Named.resolve.Goals as goal
 
