@@ -1,5 +1,7 @@
 -- One step of checking, and its end.
-use Rattle.std.proofs.Common.{◌≡◌, ℕ, zero, suc, ◌+◌, ◌<◌, ◌≤◌, Bool, true, false, cond, ◌&&◌, eqb, ltb, List, [], ◌∷◌, ◌++◌, length, drop, ℤ, w32, to_z, Some, None, IsSome, Ok, Err, Option, Result, sym, refl, ap, ◌∙◌, subst, inl, add-one, arith}
+use Rattle.std.proofs.Common.{◌≡◌, ℕ, zero, suc, ◌+◌, ◌<◌, ◌≤◌, Bool, true, false, cond, ◌&&◌, eqb, ltb, List, [], ◌∷◌, ◌++◌, length, drop, ℤ, w32, to_z, Some, None, IsSome, Ok, Err, Option, Result, sym, refl, ap, ◌∙◌, subst, inl, drop-cons, add-one, arith}
+use Rattle.std.proofs.lemmas.List.{drop_all}
+use Rattle.std.proofs.lemmas.Option.{slice_get_within, get_or_from_slice_get}
 use Rattle.std.proofs.Math.Bool.{and-false}
 use Rattle.std.proofs.lemmas.Int.{to_z_pos}
 use Rattle.std.proofs.lemmas.Bool.{false≢true, and_from, ne_eqb, le-ltb}
@@ -7,10 +9,10 @@ use Rattle.std.specs.List.{slice_get}
 use Rattle.model.specs.declared.Reference.{Reference}
 use Rattle.model.specs.declared.Step.{Step}
 use Rattle.model.specs.declared.Decline.{Decline}
-use Rattle.model.specs.declared.Decline.TheVariants.{NotStarted, FewClausePlaces, LacksVariable}
+use Rattle.model.specs.declared.Decline.TheVariants.{LacksVariable}
 use Rattle.model.specs.Clauses.{Clause, on, off, opposite, Within, has}
-use Rattle.model.specs.Machine.{Machine, first}
-use Rattle.model.specs.Checking.{named, without, step_clause, at_closing, check_from, either_refusal, check_refusal, Checks}
+use Rattle.model.specs.Machine.{Machine}
+use Rattle.model.specs.Checking.{named, without, step_clause, at_closing, check_from, check_refusal, Checks}
 use Rattle.records.specs.Kept.{step_at}
 use Rattle.clauses.specs.declared.LiteralSet.{LiteralSet}
 use Rattle.clauses.specs.Sets.{member, left_over, Holds, Emptiness}
@@ -77,9 +79,7 @@ closing_empty (Some (t ∷ C)) s f e = absurd (false≢true (sym (e t) ∙ (f t)
 -- the loop over the steps
 
 next_step : (ss : List Step) (i : ℕ) (s : Step) → slice_get ss i ≡ Some s → drop i ss ≡ s ∷ drop (suc i) ss
-next_step [] i s e = absurd (let z : ◌≡◌ {A = ℕ} 0 1 = cc in omega arith)
-next_step (x ∷ ss) zero s e = let q : x ≡ s = cc in ap (λ (y : Step). y ∷ ss) q
-next_step (x ∷ ss) (suc i) s e = next_step ss i s e
+next_step ss i s e = drop-cons ss i s (slice_get_within ss i s e) ∙ ap (λ (x : Step). x ∷ drop (suc i) ss) (get_or_from_slice_get ss i s s e)
 
 pub some_step : (ss : List Step) (i : ℕ) → i < length ss → IsSome (step_at ss (i + 1))
 some_step ss i l = rw add-one (look ss i l)
@@ -89,12 +89,6 @@ some_step ss i l = rw add-one (look ss i l)
     look (s ∷ ss) zero l = refl
     look (s ∷ ss) (suc i) l = look ss i (omega arith)
 
-all_dropped : (ss : List Step) (i : ℕ) → length ss ≤ i → drop i ss ≡ []
-all_dropped [] zero l = refl
-all_dropped [] (suc i) l = refl
-all_dropped (s ∷ ss) zero l = absurd (omega arith)
-all_dropped (s ∷ ss) (suc i) l = all_dropped ss i (omega arith)
-
 module _ (F : List Clause) (ss : List Step) (closing : Reference) where
   -- the sets hold the clauses of the first i steps, and the steps that are left decide
   pub record Going (sets : List LiteralSet) (i : ℕ) : Type 0 where
@@ -102,14 +96,11 @@ module _ (F : List Clause) (ss : List Step) (closing : Reference) where
     pub held : HoldAll sets Ds
     pub goes : check_from F Ds (drop i ss) closing ≡ check_from F [] ss closing
 
-  pub going_first : Going [] 0
-  going_first = record { Ds = []; held = tt; goes = refl }
-
   module _ (sets : List LiteralSet) (i : ℕ) (g : Going sets i) where
     pub going_end : length ss ≤ i → (r : Result (Unit {0}) Decline) → Closing F sets closing r → Refuses (check_from F [] ss closing) r
     unfolding check_from
     going_end l r h =
-        let e : at_closing (named F g.Ds closing) ≡ check_from F [] ss closing = sym (ap (λ (us : List Step). check_from F g.Ds us closing) (all_dropped ss i l)) ∙ g.goes in
+        let e : at_closing (named F g.Ds closing) ≡ check_from F [] ss closing = sym (ap (λ (us : List Step). check_from F g.Ds us closing) (drop_all i ss l)) ∙ g.goes in
         subst (λ (o : Option Decline). Refuses o r) e (h g.Ds g.held)
 
     module _ (s : Step) (n : i ≡ length sets) (this : Some s ≡ step_at ss (i + 1)) where
@@ -146,12 +137,7 @@ module _ (F : List Clause) (ss : List Step) (closing : Reference) where
 
 rows : (m : Machine) (ss : List Step) (closing : Reference) (places : ℕ) → eqb m.variables 0 ≡ false → ltb places (length ss) ≡ false
     → check_refusal m ss closing places ≡ check_from m.clauses [] ss closing
-rows m ss closing places e f = look (eqb m.variables 0) (ltb places (length ss)) e f
-  where
-    look : (a b : Bool) → a ≡ false → b ≡ false → either_refusal (first ((a, NotStarted) ∷ (b, FewClausePlaces) ∷ [])) (check_from m.clauses [] ss closing) ≡ check_from m.clauses [] ss closing
-    look true b p q = absurd (false≢true (sym p))
-    look false true p q = absurd (false≢true (sym q))
-    look false false p q = refl
+rows m ss closing places e f = rw (e, f)
 
 -- the answer of the call: the steps' first fault, where neither of the rows above it holds
 pub checks : (m : Machine) (ss : List Step) (closing : Reference) (places : ℕ) (r : Result (Unit {0}) Decline) → (m.variables ≡ 0 → ⊥) → length ss ≤ places

@@ -1,5 +1,5 @@
 -- Sets that hold clauses, one by one, and what a reference finds among them.
-use Rattle.std.proofs.Common.{◌≡◌, ℕ, zero, suc, ◌<◌, ◌≤◌, List, [], ◌∷◌, ◌++◌, length, ℤ, Some, None, Option, Bor, sym, refl, ap, ◌∙◌, subst, arith}
+use Rattle.std.proofs.Common.{◌≡◌, ℕ, zero, suc, ◌<◌, ◌≤◌, List, [], ◌∷◌, ◌++◌, length, ℤ, Some, None, Option, Bor, sym, refl, ap, ◌∙◌, arith}
 use Rattle.std.specs.List.{slice_get, HoldsAt}
 use Rattle.std.specs.Option.{MatchOption, option_copied}
 use Rattle.std.proofs.lemmas.Option.{slice_get_past, slice_get-get_or}
@@ -41,11 +41,7 @@ copied_at sets i (Some x) h = slice_get-get_or sets i x.now h.0 ∙ ap Some (sym
 
 -- the step numbered k, from 1
 pub found_step : (sets : List LiteralSet) (Ds : List Clause) (k i : ℕ) → HoldAll sets Ds → k ≡ suc i → Found (clause_at Ds k) (slice_get sets i)
-found_step sets Ds k i h e = subst (λ (n : ℕ). Found (clause_at Ds n) (slice_get sets i)) (sym e) (found_nth sets Ds i h)
-
-pub found_some : (o : Option Clause) (C : Clause) (s : LiteralSet) → o ≡ Some C → Holds s C → Found o (Some s)
-found_some None C s e h = absurd (let z : ◌≡◌ {A = ℕ} 0 1 = cc in omega arith)
-found_some (Some D) C s e h = let q : C ≡ D = cc in subst (Holds s) q h
+found_step sets Ds k i h e = rw e (found_nth sets Ds i h)
 
 -- the set of a clause that stands in a file
 pub holds_shown : (f : StationFile) (k : ℕ) (C : Clause) (s : LiteralSet) → clause_at (machine f).clauses k ≡ Some C → ((u : ℤ) → member s u ≡ in_clause C u) → Holds s C

@@ -4,6 +4,7 @@ use Rattle.std.specs.List.{IsAnyAnswer}
 use Rattle.std.specs.Bool.{beq}
 use Rattle.std.specs.Array.{IsFromFnResultFrom, IsFromFnResult}
 use Rattle.std.specs.Fn.{Called, Mut}
+use Rattle.std.proofs.Math.Bool.{or-true}
 use native.Mathlib.Decide.{dec_lt}
 use Rattle.std.proofs.lemmas.List.{get_or_past}
 use Rattle.std.proofs.lemmas.Bool.{false≢true}
@@ -21,10 +22,14 @@ none_at zero k = refl
 none_at (suc n) zero = refl
 none_at (suc n) (suc k) = none_at n k
 
+-- a set without a mark
+unmarked : (s : LiteralSet) → ((k : ℕ) → get_or s.marks k false ≡ false) → (u : ℤ) → member s u ≡ false
+unmarked s f (pos zero) = refl
+unmarked s f (pos (suc k)) = f (2 * k + 1)
+unmarked s f (negsuc k) = f (2 * k)
+
 pub none_in : (u : ℤ) → member (record { marks = replicate 512 false }) u ≡ false
-none_in (pos zero) = refl
-none_in (pos (suc k)) = none_at 512 (2 * k + 1)
-none_in (negsuc k) = none_at 512 (2 * k)
+none_in = unmarked (record { marks = replicate 512 false }) (none_at 512)
 
 pub code_within : (l : Literal) → l.index < 256 → Within 256 (code l)
 code_within l h = look l.on
@@ -78,25 +83,16 @@ literal_at s k = elim (dec_lt (2 * (k / 2)) k) [
   | no n ↦ (negsuc (k / 2), ap (λ (i : ℕ). get_or s.marks i false) (omega (arith, n)))
 ]
 
+beq_true : (b : Bool) → b ≡ beq b true
+beq_true true = refl
+beq_true false = refl
+
 pub emptiness : (s : LiteralSet) (b : Bool) → IsAnyAnswer (λ x a. beq x true ≡ a) s.marks b → Emptiness s (not b)
-emptiness s true w = let l = literal_at s w.0 in (l.0, l.1 ∙ look (get_or s.marks w.0 false) (w.2 false))
-  where
-    look : (b : Bool) → beq b true ≡ true → b ≡ true
-    look true e = refl
-    look false e = absurd (false≢true e)
-emptiness s false f = off
-  where
-    look : (b : Bool) → beq b true ≡ false → b ≡ false
-    look true e = absurd (false≢true (sym e))
-    look false e = refl
-
-    none : (k : ℕ) → get_or s.marks k false ≡ false
-    none k = elim (dec_lt k (length s.marks)) [ yes h ↦ look (get_or s.marks k false) (f k false (omega arith) h) | no n ↦ get_or_past s.marks k false (omega (arith, n)) ]
-
-    off : (u : ℤ) → member s u ≡ false
-    off (pos zero) = refl
-    off (pos (suc k)) = none (2 * k + 1)
-    off (negsuc k) = none (2 * k)
+emptiness s true w = let l = literal_at s w.0 in (l.0, l.1 ∙ beq_true (get_or s.marks w.0 false) ∙ w.2 false)
+emptiness s false f = unmarked s (λ k. elim (dec_lt k (length s.marks)) [
+  | yes h ↦ beq_true (get_or s.marks k false) ∙ f k false (omega arith) h
+  | no n ↦ get_or_past s.marks k false (omega (arith, n))
+])
 
 -- for crates above
 
@@ -106,12 +102,12 @@ code_same a b e = look a.on b.on e
   where
     look : (p q : Bool) → cond p (pos (suc a.index)) (negsuc a.index) ≡ cond q (pos (suc b.index)) (negsuc b.index) → (a.index ≡ b.index) × (p ≡ q)
     look true true e = (cc, refl)
-    look true false e = absurd (let z : ◌≡◌ {A = ℕ} 0 1 = cc in omega arith)
-    look false true e = absurd (let z : ◌≡◌ {A = ℕ} 0 1 = cc in omega arith)
+    look true false e = absurd (cc)
+    look false true e = absurd (cc)
     look false false e = (cc, refl)
 
 pub same_code : (a b : Literal) → a.index ≡ b.index → a.on ≡ b.on → code a ≡ code b
-same_code a b e f = ap (λ (p : Bool). cond p (pos (suc a.index)) (negsuc a.index)) f ∙ ap (λ (i : ℕ). cond b.on (pos (suc i)) (negsuc i)) e
+same_code a b e f = cc
 
 -- a literal of the first n variables has its place among them
 pub code_index : (l : Literal) (n : ℕ) → Within n (code l) → l.index < n
@@ -144,14 +140,10 @@ or_either false true p true h = absurd (false≢true h)
 or_either false false p q h = absurd (false≢true h)
 
 or_left : (x y p q : Bool) → x ≡ true → p ≡ false → ((x && not p) || (y && not q)) ≡ true
-or_left x y p q e f = ap (λ (b : Bool). (b && not p) || (y && not q)) e ∙ ap (λ (b : Bool). (true && not b) || (y && not q)) f
+or_left x y p q e f = rw (e, f)
 
 or_right : (x y p q : Bool) → y ≡ true → q ≡ false → ((x && not p) || (y && not q)) ≡ true
-or_right x y p q e f = ap (λ (b : Bool). (x && not p) || (b && not q)) e ∙ ap (λ (b : Bool). (x && not p) || (true && not b)) f ∙ any (x && not p)
-  where
-    any : (b : Bool) → (b || true) ≡ true
-    any true = refl
-    any false = refl
+or_right x y p q e f = rw (e, f) (or-true (x && not p))
 
 -- the resolvent of sets holds the resolvent of the clauses that they hold
 pub holds_joined : (s f r : LiteralSet) (t : ℤ) (C D E : Clause) → Holds s C → Holds f D → ((u : ℤ) → member r u ≡ left_over s f t u) → Joined t C D E → Holds r E
@@ -161,13 +153,10 @@ holds_joined s f r t C D E hs hf h j u = (
       (λ (p : (u ∈ D) × (u ≢ opposite t)). or_right (member s u) (member f u) (same t u) (same (opposite t) u) ((hf u).0 p.0) (same_false (opposite t) u (λ e. p.1 (sym e))))
       (joined_from t C D E j u i)),
   λ m. joined_all t C D E j u (⊎_elim
-      (λ (p : (member s u ≡ true) × (same t u ≡ false)). inl ((hs u).1 p.0, λ (e : u ≡ t). both_ways p.1 (ap (same t) e ∙ same_refl t)))
-      (λ (p : (member f u ≡ true) × (same (opposite t) u ≡ false)). inr ((hf u).1 p.0, λ (e : u ≡ opposite t). both_ways p.1 (ap (same (opposite t)) e ∙ same_refl (opposite t))))
+      (λ (p : (member s u ≡ true) × (same t u ≡ false)). inl ((hs u).1 p.0, λ (e : u ≡ t). false≢true (sym p.1 ∙ ap (same t) e ∙ same_refl t)))
+      (λ (p : (member f u ≡ true) × (same (opposite t) u ≡ false)). inr ((hf u).1 p.0, λ (e : u ≡ opposite t). false≢true (sym p.1 ∙ ap (same (opposite t)) e ∙ same_refl (opposite t))))
       (or_either (member s u) (member f u) (same t u) (same (opposite t) u) (sym (h u) ∙ m))),
 )
-  where
-    both_ways : {b : Bool} → b ≡ false → b ≡ true → ⊥
-    both_ways p q = false≢true (sym p ∙ q)
 
 -- an array that a closure without changes makes
 module _ {F B : Type 0} (g : Mut F (ℕ × Unit {0}) B) (f : F) (v : ℕ → B) (stays : (i : ℕ) (y : B) (q : F) → Called g f (i, tt) y q → (q ≡ f) × (y ≡ v i)) where

@@ -51,6 +51,7 @@ impl LiteralSet {
         self.mark(t, false);
     }
 
+    // From now on t is in the set, or not.
     fn mark(&mut self, t: Literal, as_member: bool)
         ensures { (u : ℤ) → member self.new u ≡ (if same (code t) u then as_member else member self.old u) }
     {
