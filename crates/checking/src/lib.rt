@@ -1,7 +1,7 @@
 // Checking an argument (a resolution refutation), whoever made it: see docs/arguments.md.
 #![tactic(auto)]
 
-ghost use Rattle.std.specs.Prelude.{◌≡◌, ℕ, ◌≤◌, length};
+ghost use Rattle.std.specs.Prelude.{length};
 ghost use Rattle.model.specs.Checking.{Checks, CheckWorth};
 ghost use Rattle.station.specs.Views.{machine};
 ghost use Rattle.checking.specs.Held.{Finds, Resolves, Closing};

@@ -63,10 +63,10 @@ without true false = refl
 without false true = refl
 without false false = refl
 
-pub united : (a b l r m : LiteralSet) (t : ℤ) → ((u : ℤ) → member l u ≡ cond (same t u) false (member a u)) → ((u : ℤ) → member r u ≡ cond (same (opposite t) u) false (member b u))
-    → ((k : ℕ) → get_or m.marks k false ≡ (get_or l.marks k false || get_or r.marks k false)) → (u : ℤ) → member m u ≡ left_over a b t u
-united a b l r m t f g h u =
-    both u ∙ ap (λ (x : Bool). x || member r u) (f u ∙ without (same t u) (member a u)) ∙ ap (λ (x : Bool). left_from || x) (g u ∙ without (same (opposite t) u) (member b u))
+pub united : (a b l r m : LiteralSet) (t o : ℤ) → ((u : ℤ) → member l u ≡ cond (same t u) false (member a u)) → o ≡ opposite t
+    → ((u : ℤ) → member r u ≡ cond (same o u) false (member b u)) → ((k : ℕ) → get_or m.marks k false ≡ (get_or l.marks k false || get_or r.marks k false)) → (u : ℤ) → member m u ≡ left_over a b t u
+united a b l r m t o f e g h u =
+    both u ∙ ap (λ (x : Bool). x || member r u) (f u ∙ without (same t u) (member a u)) ∙ ap (λ (x : Bool). left_from || x) ((rw e at g u) ∙ without (same (opposite t) u) (member b u))
   where
     left_from : Bool
     left_from = member a u && not (same t u)

@@ -1,4 +1,4 @@
-ghost use Rattle.std.specs.Prelude.{◌≡◌, ℕ, ◌+◌, ◌<◌, ◌≤◌, true, false, ℤ, if◌then◌else◌};
+ghost use Rattle.std.specs.Prelude.{◌≡◌, true, false, ℤ, if◌then◌else◌};
 ghost use Rattle.model.specs.Clauses.{same};
 ghost use Rattle.clauses.specs.Sets.{code, member, named, left_over, Emptiness};
 

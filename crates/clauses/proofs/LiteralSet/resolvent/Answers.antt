@@ -11,7 +11,7 @@ returns c =
     let l = c.remove.new.self in
     let r = c.remove-2.new.self in
     let m : LiteralSet = record { marks = c.from_fn.result } in
-    united c.args.self.now c.args.other.now l r m (code c.args.t) c.remove.ensures (rw c.opposite.ensures at c.remove-2.ensures)
+    united c.args.self.now c.args.other.now l r m (code c.args.t) (code c.opposite.result) c.remove.ensures c.opposite.ensures c.remove-2.ensures
     (λ k. elim (dec_lt k 512) [
       | yes h ↦ made_at c.from_fn.ensures.items (λ i. get_or l.marks i false || get_or r.marks i false) (λ i y q p. search rules) k false h
       | no n ↦
