@@ -1,14 +1,18 @@
 -- One step of checking, and its end.
-use Rattle.std.proofs.Common.{◌≡◌, ℕ, zero, suc, ◌+◌, ◌<◌, ◌≤◌, Bool, true, false, cond, ◌&&◌, eqb, ltb, List, [], ◌∷◌, ◌++◌, length, drop, ℤ, Some, None, Ok, Err, Option, Result, sym, refl, ap, ◌∙◌, subst, inl, add-one, arith}
+use Rattle.std.proofs.Common.{◌≡◌, ℕ, zero, suc, ◌+◌, ◌<◌, ◌≤◌, Bool, true, false, cond, ◌&&◌, eqb, ltb, List, [], ◌∷◌, ◌++◌, length, drop, ℤ, w32, to_z, Some, None, IsSome, Ok, Err, Option, Result, sym, refl, ap, ◌∙◌, subst, inl, drop-cons, add-one, arith}
+use Rattle.std.proofs.lemmas.List.{drop_all}
+use Rattle.std.proofs.lemmas.Option.{slice_get_within, get_or_from_slice_get}
+use Rattle.std.proofs.Math.Bool.{and-false}
+use Rattle.std.proofs.lemmas.Int.{to_z_pos}
 use Rattle.std.proofs.lemmas.Bool.{false≢true, and_from, ne_eqb, le-ltb}
 use Rattle.std.specs.List.{slice_get}
 use Rattle.model.specs.declared.Reference.{Reference}
 use Rattle.model.specs.declared.Step.{Step}
 use Rattle.model.specs.declared.Decline.{Decline}
-use Rattle.model.specs.declared.Decline.TheVariants.{NotStarted, FewClausePlaces, NamesNothing, LacksVariable, NotClosing}
+use Rattle.model.specs.declared.Decline.TheVariants.{LacksVariable}
 use Rattle.model.specs.Clauses.{Clause, on, off, opposite, Within, has}
-use Rattle.model.specs.Machine.{Machine, first}
-use Rattle.model.specs.Checking.{named, without, step_clause, at_closing, check_from, either_refusal, check_refusal, Checks}
+use Rattle.model.specs.Machine.{Machine}
+use Rattle.model.specs.Checking.{named, without, step_clause, at_closing, check_from, check_refusal, Checks}
 use Rattle.records.specs.Kept.{step_at}
 use Rattle.clauses.specs.declared.LiteralSet.{LiteralSet}
 use Rattle.clauses.specs.Sets.{member, left_over, Holds, Emptiness}
@@ -18,98 +22,72 @@ use Rattle.checking.proofs.Resolvents.{has_member, holds_resolvent}
 
 -- one step, by what its references find
 
-pub left_unnamed : (j k : ℕ) (L N : Option Clause) → Found L None → Made (step_clause j k L N) (Err (NamesNothing j))
-left_unnamed j k None N f = refl
-left_unnamed j k (Some L) N f = absurd f
+-- what two sets say of a variable decides
+by_members : (j k : ℕ) (l n : LiteralSet) (L N : Clause) → Holds l L → Holds n N → (b : Bool) → (member l (on k) && member n (off k)) ≡ b
+    → step_clause j k (Some L) (Some N) ≡ cond b (Ok (without (on k) L ++ without (off k) N)) (Err (LacksVariable j))
+by_members j k l n L N hl hn b e =
+    ap (λ (x : Bool). cond x (Ok (without (on k) L ++ without (off k) N)) (Err (LacksVariable j)))
+    (ap (λ (x : Bool). x && has N (off k)) (has_member l L hl (on k)) ∙ ap (λ (x : Bool). member l (on k) && x) (has_member n N hn (off k)) ∙ e)
 
-pub right_unnamed : (j k : ℕ) (L N : Option Clause) → Found N None → Made (step_clause j k L N) (Err (NamesNothing j))
-right_unnamed j k None N f = refl
-right_unnamed j k (Some L) None f = refl
-right_unnamed j k (Some L) (Some N) f = absurd f
+-- the sets that are found on the left and on the right
+module _ (j : ℕ) {k : ℕ} {l n : LiteralSet} (L N : Option Clause) {o p : Option LiteralSet} (f : Found L o) (is_left : o ≡ Some l) (g : Found N p) (is_right : p ≡ Some n) (small : k < 256) where
+  lacking : (member l (on k) && member n (off k)) ≡ false → Made (step_clause j k L N) (Err (LacksVariable j))
+  lacking e = look L N (subst (Found L) is_left f) (subst (Found N) is_right g)
+    where
+      look : (L N : Option Clause) → Found L (Some l) → Found N (Some n) → Made (step_clause j k L N) (Err (LacksVariable j))
+      look None N f g = absurd f
+      look (Some L) None f g = absurd g
+      look (Some L) (Some N) f g = subst (λ (x : Result Clause Decline). Made x (Err (LacksVariable j))) (sym (by_members j k l n L N f g false e)) refl
 
-module _ (j k : ℕ) (l n : LiteralSet) where
-  -- what the two sets say of the variable decides
-  by_members : (L N : Clause) → Holds l L → Holds n N → (b : Bool) → (member l (on k) && member n (off k)) ≡ b
-      → step_clause j k (Some L) (Some N) ≡ cond b (Ok (without (on k) L ++ without (off k) N)) (Err (LacksVariable j))
-  by_members L N hl hn b e =
-      ap (λ (x : Bool). cond x (Ok (without (on k) L ++ without (off k) N)) (Err (LacksVariable j)))
-      (ap (λ (x : Bool). x && has N (off k)) (has_member l L hl (on k)) ∙ ap (λ (x : Bool). member l (on k) && x) (has_member n N hn (off k)) ∙ e)
-
-  lacking : (L N : Option Clause) → Found L (Some l) → Found N (Some n) → (member l (on k) && member n (off k)) ≡ false → Made (step_clause j k L N) (Err (LacksVariable j))
-  lacking None N f g e = absurd f
-  lacking (Some L) None f g e = absurd g
-  lacking (Some L) (Some N) f g e = subst (λ (x : Result Clause Decline). Made x (Err (LacksVariable j))) (sym (by_members L N f g false e)) refl
+  signed : to_z w32 k ≡ on k
+  signed = to_z_pos w32 k (omega arith)
 
   -- variable 0 has no literal, and no set has it
-  pub no_variable : (L N : Option Clause) → Found L (Some l) → Found N (Some n) → k < 256 → (Within 256 (on k) → ⊥) → Made (step_clause j k L N) (Err (LacksVariable j))
-  no_variable L N f g h w = lacking L N f g (look k h w)
+  pub no_variable : (Within 256 (to_z w32 k) → ⊥) → Made (step_clause j k L N) (Err (LacksVariable j))
+  no_variable w = lacking (look k small (subst (λ (x : ℤ). Within 256 x → ⊥) signed w))
     where
       look : (i : ℕ) → i < 256 → (Within 256 (on i) → ⊥) → (member l (on i) && member n (off i)) ≡ false
       look zero h w = refl
       look (suc i) h w = absurd (w (omega arith, omega arith))
 
-  module _ (t o : ℤ) (is : t ≡ on k) (other : o ≡ opposite t) (L N : Option Clause) (f : Found L (Some l)) (g : Found N (Some n)) where
-    opposite_is : o ≡ off k
-    opposite_is = other ∙ ap opposite is
+  pub left_lacks : {t : ℤ} → t ≡ to_z w32 k → false ≡ member l t → Made (step_clause j k L N) (Err (LacksVariable j))
+  left_lacks is e = lacking (ap (λ (x : Bool). x && member n (off k)) (sym (e ∙ ap (member l) (is ∙ signed))))
 
-    pub left_lacks : member l t ≡ false → Made (step_clause j k L N) (Err (LacksVariable j))
-    left_lacks e = lacking L N f g (ap (λ (x : Bool). x && member n (off k)) (sym (ap (member l) is) ∙ e))
+  pub right_lacks : {t u : ℤ} → t ≡ to_z w32 k → u ≡ opposite t → false ≡ member n u → Made (step_clause j k L N) (Err (LacksVariable j))
+  right_lacks is other e = lacking (ap (λ (x : Bool). member l (on k) && x) (sym (e ∙ ap (member n) (other ∙ ap opposite (is ∙ signed)))) ∙ and-false (member l (on k)))
 
-    pub right_lacks : member n o ≡ false → Made (step_clause j k L N) (Err (LacksVariable j))
-    right_lacks e = lacking L N f g (ap (λ (x : Bool). member l (on k) && x) (sym (ap (member n) opposite_is) ∙ e) ∙ look (member l (on k)))
-      where
-        look : (b : Bool) → (b && false) ≡ false
-        look true = refl
-        look false = refl
+  pub resolved : {t u : ℤ} (r : LiteralSet) → t ≡ to_z w32 k → u ≡ opposite t → true ≡ member l t → true ≡ member n u
+      → ((v : ℤ) → member r v ≡ left_over l n t v) → Made (step_clause j k L N) (Ok r)
+  resolved {t = t} r is other a b h = look L N (subst (Found L) is_left f) (subst (Found N) is_right g)
+    where
+      both : (member l (on k) && member n (off k)) ≡ true
+      both = and_from (member l (on k)) (member n (off k)) (sym (a ∙ ap (member l) (is ∙ signed))) (sym (b ∙ ap (member n) (other ∙ ap opposite (is ∙ signed))))
 
-    pub resolved : (r : LiteralSet) → member l t ≡ true → member n o ≡ true → ((u : ℤ) → member r u ≡ left_over l n t u) → Made (step_clause j k L N) (Ok r)
-    resolved r a b h = look L N f g
-      where
-        both : (member l (on k) && member n (off k)) ≡ true
-        both = and_from (member l (on k)) (member n (off k)) (sym (ap (member l) is) ∙ a) (sym (ap (member n) opposite_is) ∙ b)
-
-        look : (L N : Option Clause) → Found L (Some l) → Found N (Some n) → Made (step_clause j k L N) (Ok r)
-        look None N f g = absurd f
-        look (Some L) None f g = absurd g
-        look (Some L) (Some N) f g = subst (λ (x : Result Clause Decline). Made x (Ok r)) (sym (by_members L N f g true both))
-            (holds_resolvent l n r L N k f g (λ u. h u ∙ ap (λ (x : ℤ). left_over l n x u) is))
+      look : (L N : Option Clause) → Found L (Some l) → Found N (Some n) → Made (step_clause j k L N) (Ok r)
+      look None N f g = absurd f
+      look (Some L) None f g = absurd g
+      look (Some L) (Some N) f g = subst (λ (x : Result Clause Decline). Made x (Ok r)) (sym (by_members j k l n L N f g true both))
+          (holds_resolvent l n r L N k f g (λ u. h u ∙ ap (λ (x : ℤ). left_over l n x u) (is ∙ signed)))
 
 -- the end
-
-pub closing_unnamed : (o : Option Clause) → Found o None → Refuses (at_closing o) (Err NotClosing)
-closing_unnamed None f = refl
-closing_unnamed (Some C) f = absurd f
 
 pub closing_empty : (o : Option Clause) (s : LiteralSet) → Found o (Some s) → Emptiness s true → Refuses (at_closing o) (Ok tt)
 closing_empty None s f e = absurd f
 closing_empty (Some []) s f e = refl
 closing_empty (Some (t ∷ C)) s f e = absurd (false≢true (sym (e t) ∙ (f t).0 (inl refl)))
 
-pub closing_other : (o : Option Clause) (s : LiteralSet) → Found o (Some s) → Emptiness s false → Refuses (at_closing o) (Err NotClosing)
-closing_other None s f e = absurd f
-closing_other (Some []) s f e = absurd ((f e.0).1 e.1)
-closing_other (Some (t ∷ C)) s f e = refl
-
 -- the loop over the steps
 
 next_step : (ss : List Step) (i : ℕ) (s : Step) → slice_get ss i ≡ Some s → drop i ss ≡ s ∷ drop (suc i) ss
-next_step [] i s e = absurd (let z : ◌≡◌ {A = ℕ} 0 1 = cc in omega arith)
-next_step (x ∷ ss) zero s e = let q : x ≡ s = cc in ap (λ (y : Step). y ∷ ss) q
-next_step (x ∷ ss) (suc i) s e = next_step ss i s e
+next_step ss i s e = drop-cons ss i s (slice_get_within ss i s e) ∙ ap (λ (x : Step). x ∷ drop (suc i) ss) (get_or_from_slice_get ss i s s e)
 
-pub some_step : (ss : List Step) (i : ℕ) → i < length ss → None ≡ step_at ss (i + 1) → ⊥
-some_step ss i l e = look ss i l (rw add-one at e)
+pub some_step : (ss : List Step) (i : ℕ) → i < length ss → IsSome (step_at ss (i + 1))
+some_step ss i l = rw add-one (look ss i l)
   where
-    look : (ss : List Step) (i : ℕ) → i < length ss → None ≡ slice_get ss i → ⊥
-    look [] i l e = omega arith
-    look (s ∷ ss) zero l e = let z : ◌≡◌ {A = ℕ} 0 1 = cc in omega arith
-    look (s ∷ ss) (suc i) l e = look ss i (omega arith) e
-
-all_dropped : (ss : List Step) (i : ℕ) → length ss ≤ i → drop i ss ≡ []
-all_dropped [] zero l = refl
-all_dropped [] (suc i) l = refl
-all_dropped (s ∷ ss) zero l = absurd (omega arith)
-all_dropped (s ∷ ss) (suc i) l = all_dropped ss i (omega arith)
+    look : (ss : List Step) (i : ℕ) → i < length ss → IsSome (slice_get ss i)
+    look [] i l = absurd (omega arith)
+    look (s ∷ ss) zero l = refl
+    look (s ∷ ss) (suc i) l = look ss i (omega arith)
 
 module _ (F : List Clause) (ss : List Step) (closing : Reference) where
   -- the sets hold the clauses of the first i steps, and the steps that are left decide
@@ -118,14 +96,11 @@ module _ (F : List Clause) (ss : List Step) (closing : Reference) where
     pub held : HoldAll sets Ds
     pub goes : check_from F Ds (drop i ss) closing ≡ check_from F [] ss closing
 
-  pub going_first : Going [] 0
-  going_first = record { Ds = []; held = tt; goes = refl }
-
   module _ (sets : List LiteralSet) (i : ℕ) (g : Going sets i) where
     pub going_end : length ss ≤ i → (r : Result (Unit {0}) Decline) → Closing F sets closing r → Refuses (check_from F [] ss closing) r
     unfolding check_from
     going_end l r h =
-        let e : at_closing (named F g.Ds closing) ≡ check_from F [] ss closing = sym (ap (λ (us : List Step). check_from F g.Ds us closing) (all_dropped ss i l)) ∙ g.goes in
+        let e : at_closing (named F g.Ds closing) ≡ check_from F [] ss closing = sym (ap (λ (us : List Step). check_from F g.Ds us closing) (drop_all i ss l)) ∙ g.goes in
         subst (λ (o : Option Decline). Refuses o r) e (h g.Ds g.held)
 
     module _ (s : Step) (n : i ≡ length sets) (this : Some s ≡ step_at ss (i + 1)) where
@@ -162,12 +137,7 @@ module _ (F : List Clause) (ss : List Step) (closing : Reference) where
 
 rows : (m : Machine) (ss : List Step) (closing : Reference) (places : ℕ) → eqb m.variables 0 ≡ false → ltb places (length ss) ≡ false
     → check_refusal m ss closing places ≡ check_from m.clauses [] ss closing
-rows m ss closing places e f = look (eqb m.variables 0) (ltb places (length ss)) e f
-  where
-    look : (a b : Bool) → a ≡ false → b ≡ false → either_refusal (first ((a, NotStarted) ∷ (b, FewClausePlaces) ∷ [])) (check_from m.clauses [] ss closing) ≡ check_from m.clauses [] ss closing
-    look true b p q = absurd (false≢true (sym p))
-    look false true p q = absurd (false≢true (sym q))
-    look false false p q = refl
+rows m ss closing places e f = rw (e, f)
 
 -- the answer of the call: the steps' first fault, where neither of the rows above it holds
 pub checks : (m : Machine) (ss : List Step) (closing : Reference) (places : ℕ) (r : Result (Unit {0}) Decline) → (m.variables ≡ 0 → ⊥) → length ss ≤ places

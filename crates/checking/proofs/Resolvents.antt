@@ -1,5 +1,7 @@
 -- The resolvent of sets holds the clause of a step.
 use Rattle.std.proofs.Common.{◌≡◌, ℕ, Bool, true, false, cond, not, ◌&&◌, ◌||◌, [], ◌∷◌, ◌++◌, ℤ, sym, refl, ap, ◌∙◌}
+use Rattle.std.specs.Cmp.{both_ways}
+use Rattle.std.proofs.Math.Bool.{and-false}
 use Rattle.std.proofs.lemmas.Bool.{false≢true}
 use Rattle.model.specs.Clauses.{Clause, on, off, same, has}
 use Rattle.model.specs.Checking.{without}
@@ -7,13 +9,8 @@ use Rattle.model.proofs.Signs.{same_refl, same_true, has_in, in_has}
 use Rattle.clauses.specs.declared.LiteralSet.{LiteralSet}
 use Rattle.clauses.specs.Sets.{member, left_over, Holds}
 
-equal_tests : (a b : Bool) → (a ≡ true → b ≡ true) → (b ≡ true → a ≡ true) → a ≡ b
-equal_tests true b f g = sym (f refl)
-equal_tests false true f g = g refl
-equal_tests false false f g = refl
-
 pub has_member : (s : LiteralSet) (C : Clause) → Holds s C → (u : ℤ) → has C u ≡ member s u
-has_member s C h u = equal_tests (has C u) (member s u) (λ e. (h u).0 (has_in C u e)) (λ e. in_has C u ((h u).1 e))
+has_member s C h u = both_ways (has C u) (member s u) (λ e. (h u).0 (has_in C u e)) (λ e. in_has C u ((h u).1 e))
 
 pub member_holds : (s : LiteralSet) (C : Clause) → ((u : ℤ) → has C u ≡ member s u) → Holds s C
 member_holds s C f u = ((λ h. sym (f u) ∙ in_has C u h), λ h. has_in C u (f u ∙ h))
@@ -32,11 +29,7 @@ has_without t (x ∷ C) u = look (same x t) refl (same x u) refl (same t u) refl
   where
     look : (a : Bool) → same x t ≡ a → (b : Bool) → same x u ≡ b → (c : Bool) → same t u ≡ c → has (without t C) u ≡ (has C u && not c)
         → has (cond a (without t C) (x ∷ without t C)) u ≡ (cond b true (has C u) && not c)
-    look true p true q true r h = h ∙ none (has C u)
-      where
-        none : (b : Bool) → (b && false) ≡ false
-        none true = refl
-        none false = refl
+    look true p true q true r h = h ∙ and-false (has C u)
     look true p true q false r h = absurd (false≢true (sym r ∙ ap (λ (y : ℤ). same y u) (sym (same_true x t p)) ∙ q))
     look true p false q c r h = h
     look false p true q true r h = absurd (false≢true (sym p ∙ ap (same x) (same_true t u r ∙ sym (same_true x u q)) ∙ same_refl x))

@@ -1,7 +1,7 @@
 // Checking an argument (a resolution refutation), whoever made it: see docs/arguments.md.
 #![tactic(auto)]
 
-ghost use Rattle.std.specs.Prelude.{◌≡◌, ℕ, ◌≤◌, length};
+ghost use Rattle.std.specs.Prelude.{length};
 ghost use Rattle.model.specs.Checking.{Checks, CheckWorth};
 ghost use Rattle.station.specs.Views.{machine};
 ghost use Rattle.checking.specs.Held.{Finds, Resolves, Closing};
@@ -14,58 +14,46 @@ use station::StationFile;
 #[cfg(test)]
 mod tests;
 
-// The clause that a reference names, among those of the file and those of the earlier steps.
-fn clause_of(file: &StationFile, earlier: &[LiteralSet], reference: Reference) -> Option<LiteralSet>
-    ensures { Finds (machine file.now).clauses earlier.now reference result }
-{
-    match reference {
-        Reference::R(k) => Some(LiteralSet::of(file.show(k)?)),
-        Reference::S(k) => {
-            let k = k as usize;
-            if k == 0 || earlier.len() < k {
-                return None;
-            }
-            Some(earlier[k - 1])
+// The clauses that a reference can name: those of a file, and those of the steps so far.
+#[derive(Clone, Copy)]
+struct Named<'a> {
+    file: &'a StationFile,
+    earlier: &'a [LiteralSet],
+}
+
+impl Named<'_> {
+    // The clause that a reference names.
+    fn clause_of(&self, reference: Reference) -> Option<LiteralSet>
+        ensures { Finds (machine self.now.file.now).clauses self.now.earlier.now reference result }
+    {
+        match reference {
+            Reference::R(k) => Some(LiteralSet::of(self.file.show(k)?)),
+            Reference::S(k) => self.earlier.get((k as usize).checked_sub(1)?).copied(),
         }
     }
-}
 
-// The clause of the step numbered j, which follows the earlier ones: the resolvent of the two that it names.
-fn resolve(
-    file: &StationFile,
-    earlier: &[LiteralSet],
-    step: Step,
-    j: usize,
-) -> Result<LiteralSet, Decline>
-    ensures { Resolves (machine file.now).clauses earlier.now step j result }
-{
-    let Some(left) = clause_of(file, earlier, step.left) else {
-        return Err(Decline::NamesNothing(j));
-    };
-    let Some(right) = clause_of(file, earlier, step.right) else {
-        return Err(Decline::NamesNothing(j));
-    };
-    let Some(on) = Literal::of(step.variable as i32) else {
-        return Err(Decline::LacksVariable(j));
-    };
-    if left.contains(on) && right.contains(on.opposite()) {
-        Ok(left.resolvent(&right, on))
-    } else {
-        Err(Decline::LacksVariable(j))
+    // The clause of the next step, which is numbered j: the resolvent of the two that it names.
+    fn resolve(&self, step: Step, j: usize) -> Result<LiteralSet, Decline>
+        ensures { Resolves (machine self.now.file.now).clauses self.now.earlier.now step j result }
+    {
+        let left = self.clause_of(step.left).ok_or(Decline::NamesNothing(j))?;
+        let right = self.clause_of(step.right).ok_or(Decline::NamesNothing(j))?;
+        match Literal::try_from(step.variable as i32) {
+            Ok(on) if left.contains(on) && right.contains(on.opposite()) => {
+                Ok(left.resolvent(&right, on))
+            }
+            _ => Err(Decline::LacksVariable(j)),
+        }
     }
-}
 
-// Whether the closing reference names a clause without a literal.
-fn closes(file: &StationFile, earlier: &[LiteralSet], closing: Reference) -> Result<(), Decline>
-    ensures { Closing (machine file.now).clauses earlier.now closing result }
-{
-    let Some(clause) = clause_of(file, earlier, closing) else {
-        return Err(Decline::NotClosing);
-    };
-    if clause.is_empty() {
-        Ok(())
-    } else {
-        Err(Decline::NotClosing)
+    // Whether the closing reference names a clause without a literal.
+    fn closes(&self, closing: Reference) -> Result<(), Decline>
+        ensures { Closing (machine self.now.file.now).clauses self.now.earlier.now closing result }
+    {
+        match self.clause_of(closing) {
+            Some(clause) if clause.is_empty() => Ok(()),
+            _ => Err(Decline::NotClosing),
+        }
     }
 }
 
@@ -86,13 +74,14 @@ fn faultless<R: Record>(
     if memory.len() < count {
         return Err(Decline::FewClausePlaces);
     }
+    // By number: the step at i reads every place before its own.
     for i in 0..count {
-        let Some(step) = record.look(i + 1) else {
-            return unreachable();
-        };
-        memory[i] = resolve(file, &memory[..i], step, i + 1)?;
+        let step = record.look(i + 1).unwrap();
+        let earlier = &memory[..i];
+        memory[i] = Named { file, earlier }.resolve(step, i + 1)?;
     }
-    closes(file, &memory[..count], closing)
+    let earlier = &memory[..count];
+    Named { file, earlier }.closes(closing)
 }
 
 // Whether the steps of the record are an argument from the file's clauses, closed by the clause named; if not, its first fault. What is accepted

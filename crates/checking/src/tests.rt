@@ -53,10 +53,8 @@ fn whole() -> [Step; 3] {
 // What is answered to the argument of the four clauses with another step numbered j.
 fn spoilt(j: usize, by: Step) -> Result<(), Decline> {
     let mut steps = whole();
-    for (i, s) in steps.iter_mut().enumerate() {
-        if i + 1 == j {
-            *s = by;
-        }
+    if (1..=steps.len()).contains(&j) {
+        steps[j - 1] = by;
     }
     answer(&file_of(2, FOUR), &steps, S(3), 3)
 }

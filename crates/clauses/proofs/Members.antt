@@ -1,5 +1,10 @@
 -- Members of sets of literals.
-use Rattle.std.proofs.Common.{◌≡◌, ℕ, zero, suc, ◌<◌, Bool, true, false, cond, not, ◌&&◌, ◌||◌, ◌≢◌, ◌⊎◌, [], ◌∷◌, ◌++◌, length, get_or, replicate, ℤ, pos, negsuc, sym, refl, ap, ◌∙◌, inl, inr, ⊎_elim, arith}
+use Rattle.std.proofs.Common.{◌≡◌, ℕ, zero, suc, ◌+◌, ◌*◌, ◌/◌, ◌<◌, ◌≤◌, Bool, true, false, cond, not, ◌&&◌, ◌||◌, ◌≢◌, ◌⊎◌, List, [], ◌∷◌, ◌++◌, length, get_or, replicate, ℤ, pos, negsuc, sym, refl, ap, ◌∙◌, subst, inl, inr, ⊎_elim, arith}
+use Rattle.std.specs.List.{IsAnyAnswer}
+use Rattle.std.specs.Bool.{beq}
+use Rattle.std.specs.Array.{IsFromFnResultFrom, IsFromFnResult}
+use Rattle.std.specs.Fn.{Called, Mut}
+use Rattle.std.proofs.Math.Bool.{or-true}
 use native.Mathlib.Decide.{dec_lt}
 use Rattle.std.proofs.lemmas.List.{get_or_past}
 use Rattle.std.proofs.lemmas.Bool.{false≢true}
@@ -10,17 +15,21 @@ use Rattle.model.proofs.Signs.{same_refl, same_true, same_false, has_in, in_has,
 use Rattle.model.proofs.Failing.{joined_from}
 use Rattle.clauses.specs.declared.LiteralSet.{LiteralSet}
 use Rattle.clauses.specs.declared.Literal.{Literal}
-use Rattle.clauses.specs.Sets.{code, member, named, left_over, Holds}
+use Rattle.clauses.specs.Sets.{code, member, named, left_over, Holds, Emptiness}
 
 none_at : (n k : ℕ) → get_or (replicate n false) k false ≡ false
 none_at zero k = refl
 none_at (suc n) zero = refl
 none_at (suc n) (suc k) = none_at n k
 
-pub none_in : (u : ℤ) → member (record { on = replicate 256 false; off = replicate 256 false }) u ≡ false
-none_in (pos zero) = refl
-none_in (pos (suc k)) = none_at 256 k
-none_in (negsuc k) = none_at 256 k
+-- a set without a mark
+unmarked : (s : LiteralSet) → ((k : ℕ) → get_or s.marks k false ≡ false) → (u : ℤ) → member s u ≡ false
+unmarked s f (pos zero) = refl
+unmarked s f (pos (suc k)) = f (2 * k + 1)
+unmarked s f (negsuc k) = f (2 * k)
+
+pub none_in : (u : ℤ) → member (record { marks = replicate 512 false }) u ≡ false
+none_in = unmarked (record { marks = replicate 512 false }) (none_at 512)
 
 pub code_within : (l : Literal) → l.index < 256 → Within 256 (code l)
 code_within l h = look l.on
@@ -48,42 +57,42 @@ named_other C t n u = ap (λ (b : Bool). cond (names 256 u) b false) (has_push C
     look true p false q = refl
     look true p true q = absurd (n (names_within 256 t (ap (names 256) (same_true t u q) ∙ p)))
 
--- marks of two sets together, in each sign
-pub both_signs : (r a b : LiteralSet) → ((k : ℕ) → get_or r.on k false ≡ cond (get_or b.on k false) true (get_or a.on k false))
-    → ((k : ℕ) → get_or r.off k false ≡ cond (get_or b.off k false) true (get_or a.off k false)) → (u : ℤ) → member r u ≡ cond (member b u) true (member a u)
-both_signs r a b f g (pos zero) = refl
-both_signs r a b f g (pos (suc k)) = f k
-both_signs r a b f g (negsuc k) = g k
+without : (p x : Bool) → cond p false x ≡ (x && not p)
+without true true = refl
+without true false = refl
+without false true = refl
+without false false = refl
 
-pub united : (a b l r m : LiteralSet) (t : ℤ) → ((u : ℤ) → member l u ≡ cond (same t u) false (member a u)) → ((u : ℤ) → member r u ≡ cond (same (opposite t) u) false (member b u))
-    → ((u : ℤ) → member m u ≡ cond (member r u) true (member l u)) → (u : ℤ) → member m u ≡ left_over a b t u
-united a b l r m t f g h u =
-    h u ∙ ap (λ (x : Bool). cond x true (member l u)) (g u) ∙ ap (cond (cond (same (opposite t) u) false (member b u)) true) (f u) ∙ look (same (opposite t) u) (member b u) (same t u) (member a u)
+pub united : (a b l r m : LiteralSet) (t o : ℤ) → ((u : ℤ) → member l u ≡ cond (same t u) false (member a u)) → o ≡ opposite t
+    → ((u : ℤ) → member r u ≡ cond (same o u) false (member b u)) → ((k : ℕ) → get_or m.marks k false ≡ (get_or l.marks k false || get_or r.marks k false)) → (u : ℤ) → member m u ≡ left_over a b t u
+united a b l r m t o f e g h u =
+    both u ∙ ap (λ (x : Bool). x || member r u) (f u ∙ without (same t u) (member a u)) ∙ ap (λ (x : Bool). left_from || x) ((rw e at g u) ∙ without (same (opposite t) u) (member b u))
   where
-    look : (p x q y : Bool) → cond (cond p false x) true (cond q false y) ≡ ((y && not q) || (x && not p))
-    look true true true true = refl
-    look true true true false = refl
-    look true true false true = refl
-    look true true false false = refl
-    look true false true true = refl
-    look true false true false = refl
-    look true false false true = refl
-    look true false false false = refl
-    look false true true true = refl
-    look false true true false = refl
-    look false true false true = refl
-    look false true false false = refl
-    look false false true true = refl
-    look false false true false = refl
-    look false false false true = refl
-    look false false false false = refl
+    left_from : Bool
+    left_from = member a u && not (same t u)
 
--- neither half has a mark
-pub unmarked : (s : LiteralSet) → length s.on ≡ 256 → length s.off ≡ 256 → ((k : ℕ) → k < 256 → (get_or s.on k false ≡ false) × (get_or s.off k false ≡ false))
-    → (u : ℤ) → member s u ≡ false
-unmarked s a b f (pos zero) = refl
-unmarked s a b f (pos (suc k)) = elim (dec_lt k 256) [ yes h ↦ (f k h).0 | no n ↦ get_or_past s.on k false (omega (arith, a, n)) ]
-unmarked s a b f (negsuc k) = elim (dec_lt k 256) [ yes h ↦ (f k h).1 | no n ↦ get_or_past s.off k false (omega (arith, b, n)) ]
+    both : (u : ℤ) → member m u ≡ (member l u || member r u)
+    both (pos zero) = refl
+    both (pos (suc k)) = h (2 * k + 1)
+    both (negsuc k) = h (2 * k)
+
+-- each mark is a literal's
+literal_at : (s : LiteralSet) (k : ℕ) → (u : ℤ) × (member s u ≡ get_or s.marks k false)
+literal_at s k = elim (dec_lt (2 * (k / 2)) k) [
+  | yes h ↦ (pos (suc (k / 2)), ap (λ (i : ℕ). get_or s.marks i false) (omega arith))
+  | no n ↦ (negsuc (k / 2), ap (λ (i : ℕ). get_or s.marks i false) (omega (arith, n)))
+]
+
+beq_true : (b : Bool) → b ≡ beq b true
+beq_true true = refl
+beq_true false = refl
+
+pub emptiness : (s : LiteralSet) (b : Bool) → IsAnyAnswer (λ x a. beq x true ≡ a) s.marks b → Emptiness s (not b)
+emptiness s true w = let l = literal_at s w.0 in (l.0, l.1 ∙ beq_true (get_or s.marks w.0 false) ∙ w.2 false)
+emptiness s false f = unmarked s (λ k. elim (dec_lt k (length s.marks)) [
+  | yes h ↦ beq_true (get_or s.marks k false) ∙ f k false (omega arith) h
+  | no n ↦ get_or_past s.marks k false (omega (arith, n))
+])
 
 -- for crates above
 
@@ -93,12 +102,12 @@ code_same a b e = look a.on b.on e
   where
     look : (p q : Bool) → cond p (pos (suc a.index)) (negsuc a.index) ≡ cond q (pos (suc b.index)) (negsuc b.index) → (a.index ≡ b.index) × (p ≡ q)
     look true true e = (cc, refl)
-    look true false e = absurd (let z : ◌≡◌ {A = ℕ} 0 1 = cc in omega arith)
-    look false true e = absurd (let z : ◌≡◌ {A = ℕ} 0 1 = cc in omega arith)
+    look true false e = absurd (cc)
+    look false true e = absurd (cc)
     look false false e = (cc, refl)
 
 pub same_code : (a b : Literal) → a.index ≡ b.index → a.on ≡ b.on → code a ≡ code b
-same_code a b e f = ap (λ (p : Bool). cond p (pos (suc a.index)) (negsuc a.index)) f ∙ ap (λ (i : ℕ). cond b.on (pos (suc i)) (negsuc i)) e
+same_code a b e f = cc
 
 -- a literal of the first n variables has its place among them
 pub code_index : (l : Literal) (n : ℕ) → Within n (code l) → l.index < n
@@ -131,14 +140,10 @@ or_either false true p true h = absurd (false≢true h)
 or_either false false p q h = absurd (false≢true h)
 
 or_left : (x y p q : Bool) → x ≡ true → p ≡ false → ((x && not p) || (y && not q)) ≡ true
-or_left x y p q e f = ap (λ (b : Bool). (b && not p) || (y && not q)) e ∙ ap (λ (b : Bool). (true && not b) || (y && not q)) f
+or_left x y p q e f = rw (e, f)
 
 or_right : (x y p q : Bool) → y ≡ true → q ≡ false → ((x && not p) || (y && not q)) ≡ true
-or_right x y p q e f = ap (λ (b : Bool). (x && not p) || (b && not q)) e ∙ ap (λ (b : Bool). (x && not p) || (true && not b)) f ∙ any (x && not p)
-  where
-    any : (b : Bool) → (b || true) ≡ true
-    any true = refl
-    any false = refl
+or_right x y p q e f = rw (e, f) (or-true (x && not p))
 
 -- the resolvent of sets holds the resolvent of the clauses that they hold
 pub holds_joined : (s f r : LiteralSet) (t : ℤ) (C D E : Clause) → Holds s C → Holds f D → ((u : ℤ) → member r u ≡ left_over s f t u) → Joined t C D E → Holds r E
@@ -148,10 +153,22 @@ holds_joined s f r t C D E hs hf h j u = (
       (λ (p : (u ∈ D) × (u ≢ opposite t)). or_right (member s u) (member f u) (same t u) (same (opposite t) u) ((hf u).0 p.0) (same_false (opposite t) u (λ e. p.1 (sym e))))
       (joined_from t C D E j u i)),
   λ m. joined_all t C D E j u (⊎_elim
-      (λ (p : (member s u ≡ true) × (same t u ≡ false)). inl ((hs u).1 p.0, λ (e : u ≡ t). both_ways p.1 (ap (same t) e ∙ same_refl t)))
-      (λ (p : (member f u ≡ true) × (same (opposite t) u ≡ false)). inr ((hf u).1 p.0, λ (e : u ≡ opposite t). both_ways p.1 (ap (same (opposite t)) e ∙ same_refl (opposite t))))
+      (λ (p : (member s u ≡ true) × (same t u ≡ false)). inl ((hs u).1 p.0, λ (e : u ≡ t). false≢true (sym p.1 ∙ ap (same t) e ∙ same_refl t)))
+      (λ (p : (member f u ≡ true) × (same (opposite t) u ≡ false)). inr ((hf u).1 p.0, λ (e : u ≡ opposite t). false≢true (sym p.1 ∙ ap (same (opposite t)) e ∙ same_refl (opposite t))))
       (or_either (member s u) (member f u) (same t u) (same (opposite t) u) (sym (h u) ∙ m))),
 )
-  where
-    both_ways : {b : Bool} → b ≡ false → b ≡ true → ⊥
-    both_ways p q = false≢true (sym p ∙ q)
+
+-- an array that a closure without changes makes
+module _ {F B : Type 0} (g : Mut F (ℕ × Unit {0}) B) (f : F) (v : ℕ → B) (stays : (i : ℕ) (y : B) (q : F) → Called g f (i, tt) y q → (q ≡ f) × (y ≡ v i)) where
+  made_from : (ys : List B) (i n : ℕ) → IsFromFnResultFrom g f ys i n → (k : ℕ) (d : B) → i ≤ k → k < i + n → get_or ys k d ≡ v k
+  made_from ys i zero w k d l h = absurd (omega arith)
+  made_from ys i (suc n) w k d l h =
+      let e = stays i w.1 w.0 w.3 in
+      elim (dec_lt i k) [
+        | yes p ↦ made_from ys (i + 1) n (subst (λ (x : F). IsFromFnResultFrom g x ys (i + 1) n) e.0 w.4) k d (omega (arith, p)) (omega arith)
+        | no p ↦ subst (λ (j : ℕ). get_or ys j d ≡ v j) (let q : i ≡ k = omega (arith, p) in q) (w.2.1 d ∙ e.1)
+      ]
+
+pub made_at : {F B : Type 0} {g : Mut F (ℕ × Unit {0}) B} {f : F} {ys : List B} {n : ℕ} → IsFromFnResult g f ys n → (v : ℕ → B)
+    → ((i : ℕ) (y : B) (q : F) → Called g f (i, tt) y q → (q ≡ f) × (y ≡ v i)) → (k : ℕ) (d : B) → k < n → get_or ys k d ≡ v k
+made_at {g = g} {f = f} {ys = ys} {n = n} w v stays k d h = made_from g f v stays ys 0 n w.each k d (omega arith) (omega arith)

@@ -1,22 +1,27 @@
 -- What a literal and a set of literals of the code stand for.
-use Rattle.std.specs.Prelude.{◌≡◌, zero, suc, Bool, true, false, cond, not, ◌&&◌, ◌||◌, ℤ, pos, negsuc, Some, None, Option, slice_index_or}
+use Rattle.std.specs.Prelude.{◌≡◌, ℕ, zero, suc, ◌+◌, ◌*◌, Bool, true, false, cond, not, ◌&&◌, ◌||◌, ℤ, pos, negsuc, Ok, Err, Result, slice_index_or}
 use Rattle.model.specs.Clauses.{Clause, ◌∈◌, Within, opposite, same, has}
 use Rattle.model.specs.Machine.{names}
 use Rattle.clauses.specs.declared.Literal.{Literal}
 use Rattle.clauses.specs.declared.LiteralSet.{LiteralSet}
+use Rattle.clauses.specs.declared.NoLiteral.{NoLiteral}
 
 abbrev pub code : Literal → ℤ
 code l = cond l.on (pos (suc l.index)) (negsuc l.index)
 
 -- a signed number names a literal, or is none of the 256 variables'
-abbrev pub Coded : ℤ → Option Literal → Type 0
-Coded t (Some l) = code l ≡ t
-Coded t None = Within 256 t → ⊥
+abbrev pub Coded : ℤ → Result Literal NoLiteral → Type 0
+Coded t (Ok l) = code l ≡ t
+Coded t (Err e) = Within 256 t → ⊥
+
+-- where the mark of a literal stands: first off, then on, for each variable in turn
+abbrev pub place : Literal → ℕ
+place l = 2 * l.index + cond l.on 1 0
 
 abbrev pub member : LiteralSet → ℤ → Bool
 member s (pos zero) = false
-member s (pos (suc k)) = slice_index_or s.on k false
-member s (negsuc k) = slice_index_or s.off k false
+member s (pos (suc k)) = slice_index_or s.marks (2 * k + 1) false
+member s (negsuc k) = slice_index_or s.marks (2 * k) false
 
 -- a literal of the 256 variables that stands in the clause
 abbrev pub named : Clause → ℤ → Bool

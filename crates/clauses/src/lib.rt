@@ -11,9 +11,12 @@ pub struct Literal {
     on: bool,
 }
 
+// What a signed number is that names no literal of the 256 variables.
+#[derive(Clone, Copy, PartialEq, Eq, Debug)]
+pub struct NoLiteral;
+
 // A set of literals, a mark for each.
 #[derive(Clone, Copy)]
 pub struct LiteralSet {
-    on: [bool; 256],
-    off: [bool; 256],
+    marks: [bool; 512],
 }

@@ -1,25 +1,28 @@
-ghost use Rattle.std.specs.Prelude.{◌≡◌, ℕ, ◌+◌, ◌≤◌, pos};
+ghost use Rattle.std.specs.Prelude.{◌≡◌, ◌<◌, pos};
 ghost use Rattle.model.specs.Clauses.{opposite};
-ghost use Rattle.clauses.specs.Sets.{code, Coded};
+ghost use Rattle.clauses.specs.Sets.{code, place, Coded};
 
-use super::Literal;
+use super::{Literal, NoLiteral};
 
-impl Literal {
-    // The literal of a signed number, where it is one of the 256 variables'.
-    pub fn of(number: i32) -> Option<Literal>
-        ensures { Coded number result }
-    {
+impl TryFrom<i32> for Literal {
+    type Error = NoLiteral;
+
+    ghost try_from_gives = { Coded };
+
+    fn try_from(number: i32) -> Result<Literal, NoLiteral> {
         let at = number.unsigned_abs();
         if at == 0 || at > 256 {
-            return None;
+            return Err(NoLiteral);
         }
         let index = (at - 1) as u8;
-        Some(Literal {
+        Ok(Literal {
             index,
             on: number > 0,
         })
     }
+}
 
+impl Literal {
     // Variable 1, on.
     pub fn first() -> Literal
         ensures { code result ≡ pos 1 }
@@ -47,5 +50,13 @@ impl Literal {
         ensures { result ≡ self.on }
     {
         self.on
+    }
+
+    // The place of its mark in a set.
+    pub(crate) fn place(self) -> usize
+        ensures is { result ≡ place self }
+        ensures within { result < 512 }
+    {
+        2 * self.index as usize + self.on as usize
     }
 }

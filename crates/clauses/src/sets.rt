@@ -1,16 +1,16 @@
-ghost use Rattle.std.specs.Prelude.{◌≡◌, ℕ, ◌+◌, ◌<◌, ◌≤◌, true, false, length, get_or, ℤ, if◌then◌else◌, slice_index_or};
-ghost use Rattle.model.specs.Clauses.{same, has};
+ghost use Rattle.std.specs.Prelude.{◌≡◌, true, false, ℤ, if◌then◌else◌};
+ghost use Rattle.model.specs.Clauses.{same};
 ghost use Rattle.clauses.specs.Sets.{code, member, named, left_over, Emptiness};
 
 use super::{Literal, LiteralSet};
+use std::array;
 
 impl LiteralSet {
     pub fn empty() -> LiteralSet
         ensures { (u : ℤ) → member result u ≡ false }
     {
         LiteralSet {
-            on: [false; 256],
-            off: [false; 256],
+            marks: [false; 512],
         }
     }
 
@@ -20,7 +20,7 @@ impl LiteralSet {
     {
         let mut set = LiteralSet::empty();
         for number in clause {
-            if let Some(t) = Literal::of(*number) {
+            if let Ok(t) = Literal::try_from(*number) {
                 set.insert(t);
             }
         }
@@ -30,42 +30,32 @@ impl LiteralSet {
     pub fn contains(&self, t: Literal) -> bool
         ensures { result ≡ member self.now (code t) }
     {
-        if t.on {
-            self.on[t.index as usize]
-        } else {
-            self.off[t.index as usize]
-        }
+        self.marks[t.place()]
     }
 
     pub fn is_empty(&self) -> bool
         ensures { Emptiness self.now result }
     {
-        for i in 0..256 {
-            if self.on[i] || self.off[i] {
-                return false;
-            }
-        }
-        true
+        !self.marks.contains(&true)
     }
 
     pub fn insert(&mut self, t: Literal)
         ensures { (u : ℤ) → member self.new u ≡ (if same (code t) u then true else member self.old u) }
     {
-        if t.on {
-            self.on[t.index as usize] = true;
-        } else {
-            self.off[t.index as usize] = true;
-        }
+        self.mark(t, true);
     }
 
     pub fn remove(&mut self, t: Literal)
         ensures { (u : ℤ) → member self.new u ≡ (if same (code t) u then false else member self.old u) }
     {
-        if t.on {
-            self.on[t.index as usize] = false;
-        } else {
-            self.off[t.index as usize] = false;
-        }
+        self.mark(t, false);
+    }
+
+    // From now on t is in the set, or not.
+    fn mark(&mut self, t: Literal, as_member: bool)
+        ensures { (u : ℤ) → member self.new u ≡ (if same (code t) u then as_member else member self.old u) }
+    {
+        self.marks[t.place()] = as_member;
     }
 
     // This set without t, joined with the other without the opposite of t.
@@ -76,19 +66,8 @@ impl LiteralSet {
         left.remove(t);
         let mut right = *other;
         right.remove(t.opposite());
-        either(&mut left.on, &right.on);
-        either(&mut left.off, &right.off);
-        left
-    }
-}
-
-// Marks in a what b marks.
-fn either(a: &mut [bool; 256], b: &[bool; 256])
-    ensures { (k : ℕ) → slice_index_or a.new k false ≡ (if get_or b.now k false then true else slice_index_or a.old k false) }
-{
-    for i in 0..256 {
-        if b[i] {
-            a[i] = true;
+        LiteralSet {
+            marks: array::from_fn(|k| left.marks[k] | right.marks[k]),
         }
     }
 }
