@@ -5,7 +5,7 @@ use Rattle.texts.proofs.Digits.{bad_length, bad_digit, good_digits, digits_more,
 use Rattle.texts.proofs.numbers.natural.Goals as goal
 
 pub returns-then-is_empty : goal.returns-then-is_empty
-returns-then-is_empty c = 
+returns-then-is_empty c =
     let n = length c.args.w.now in
     record { small = tt; value = bad_length c.args.w.now (⊎_elim (λ a. inl (let z : n ≡ 0 = eqb-true n 0 (sym c.is_empty.ensures ∙ a) in omega arith)) (λ a. inr a.1) c.then-is_empty.either) }
 
