@@ -1,7 +1,7 @@
 -- What the functions on numbers need.
 use Rattle.std.proofs.Common.{◌≡◌, ℕ, ◌+◌, ◌-◌, ◌*◌, ◌<◌, ◌≤◌, true, false, ◌&&◌, leb, ◌≢◌, ◌⊎◌, List, [], ◌∷◌, length, get_or, take, drop, Some, None, Option, sym, ap, ◌∙◌, ⊎_elim, arith}
 use Rattle.std.proofs.lemmas.List.{take_rest, drop_more, drop_all}
-use Rattle.std.proofs.lemmas.Bool.{ne_eqb, lt-leb, le-leb, and_left, and_right, and_from, cond-true, cond-false}
+use Rattle.std.proofs.lemmas.Bool.{ne_eqb, lt-leb, le-leb, and_left, and_right, and_from, and_parts, leb-true, cond-true, cond-false}
 use Rattle.model.specs.Numbers.{digit, digits, decimal_value, natural, integer, plain, negative}
 
 pub bad_length : (w : List ℕ) → (length w < 1) ⊎ (6 < length w) → None ≡ natural w
@@ -19,14 +19,13 @@ unfolding natural
 good_digits w v a b d e =
     ap (λ (x : ℕ). Some x) e ∙ sym (cond-true _ (Some (decimal_value 0 w)) None (and_from (digits w) _ d (and_from _ _ (le-leb 1 (length w) a) (le-leb (length w) 6 b))))
 
-pub digits_more : (w : List ℕ) (i : ℕ) → i < length w → 48 ≤ get_or w i 0 → get_or w i 0 ≤ 57 → digits (drop (i + 1) w) ≡ digits (drop i w)
+pub digits_more : (w : List ℕ) (i : ℕ) → i < length w → digit (get_or w i 0) ≡ true → digits (drop (i + 1) w) ≡ digits (drop i w)
 unfolding digits
-digits_more w i l a b = sym (ap digits (drop_more w i 0 l) ∙ rw (le-leb 48 (get_or w i 0) a, le-leb (get_or w i 0) 57 b))
+digits_more w i l h = sym (ap digits (drop_more w i 0 l) ∙ rw h)
 
-pub digits_broken : (w : List ℕ) (i : ℕ) → i < length w → (get_or w i 0 < 48) ⊎ (57 < get_or w i 0) → digits (drop i w) ≡ false
+pub digits_broken : (w : List ℕ) (i : ℕ) → i < length w → digit (get_or w i 0) ≡ false → digits (drop i w) ≡ false
 unfolding digits
-digits_broken w i l h =
-    ap digits (drop_more w i 0 l) ∙ and_left _ _ (⊎_elim (λ a. and_left (leb 48 (get_or w i 0)) (leb (get_or w i 0) 57) (lt-leb 48 (get_or w i 0) a)) (λ a. and_right (leb 48 (get_or w i 0)) (leb (get_or w i 0) 57) (lt-leb (get_or w i 0) 57 a)) h)
+digits_broken w i l h = ap digits (drop_more w i 0 l) ∙ and_left _ _ h
 
 pub digits_done : (w : List ℕ) (i : ℕ) → length w ≤ i → digits (drop i w) ≡ true
 unfolding digits
@@ -53,3 +52,10 @@ pub no_integer : (w : List ℕ) → 0 < length w → digit (get_or w 0 0) ≡ fa
 unfolding integer digits
 no_integer [] l d m = absurd (omega arith)
 no_integer (b ∷ w) l d m = rw (ne_eqb b 45 m) (ap (λ (x : Option ℕ). plain x) (sym (bad_digit (b ∷ w) (and_left (digit b) (digits w) d))))
+
+pub at_most_57 : (b : ℕ) → digit b ≡ true → b ≤ 57
+at_most_57 b h = leb-true b 57 (and_parts (leb 48 b) (leb b 57) h).1
+
+pub no_first : (w : List ℕ) → length w < 1 → get_or w 0 0 ≢ 45
+no_first [] l e = absurd (omega (arith, e))
+no_first (b ∷ w) l e = absurd (omega arith)

@@ -1,47 +1,51 @@
--- What an answer of the reader says, once its case is known.
-use Rattle.std.proofs.Common.{◌≡◌, ℕ, List, [], ◌∷◌, ℤ, Some, None, Ok, Err, Option, Result, sym, refl, ap, ◌∙◌, subst, Bor}
+-- What the reader gives.
+use Rattle.std.proofs.Common.{◌≡◌, ℕ, List, [], ◌∷◌, length, Some, None, Ok, Err, Option, Result, MatchOption, IsSomeAnd, ok_or, sym, refl, ap, ◌∙◌, subst, arith, Bor}
+use Rattle.std.specs.Iterator.{MakesProgress, item_count}
 use Rattle.texts.specs.declared.Reader.{Reader}
 use Rattle.texts.specs.declared.Placed.{Placed as Read}
 use Rattle.texts.specs.declared.Token.{Token as Cut}
 use Rattle.texts.specs.declared.Token.TheVariants.{Number, Comment, Problem, LineEnd}
 use Rattle.model.specs.declared.ProblemLine.{ProblemLine}
 use Rattle.model.specs.declared.WordFault.{WordFault}
-use Rattle.model.specs.Numbers.{integer}
-use Rattle.model.specs.Words.{Placed, Piece, no_number, spelt}
+use Rattle.model.specs.Words.{Placed}
 use Rattle.model.specs.Reading.{counts, spellings, variables_told, variables_in}
-use Rattle.texts.specs.Scan.{rest_of, meaning, bytes_of, kind_of, NumberAt, Cuts, Gives}
+use Rattle.texts.proofs.StepsTaken.{at_token, at_word}
+use Rattle.texts.specs.Scan.{rest_of, bytes_of, kind_of, part_token, Means, Gives}
 
--- a word that was passed, by what it is as a number
-pub cuts_by : (a b : Reader) (at : ℕ) (w : List ℕ) → rest_of a ≡ ((at, w), spelt (integer w)) ∷ rest_of b → (r : Result Read WordFault) → NumberAt at w r → Cuts a b r
-cuts_by a b at w e (Ok p) q = e ∙ ap (λ (z : Placed). z ∷ rest_of b) (sym q)
-cuts_by a b at w e (Err f) q = (w, e ∙ (ap (λ (o : Option ℤ). ((at, w), spelt o) ∷ rest_of b) q.0 ∙ ap (λ (k : ℕ). ((k, w), no_number) ∷ rest_of b) (sym q.1)))
+-- a token at a place, or the fault there, means the part there
+pub given_by : (at : ℕ) (part : List ℕ) (o : Option Cut) (m : Option Read) (r : Result Read WordFault) (R : Cut → Read → Type 0) → MatchOption o (m ≡ None) (λ t. IsSomeAnd m (R t)) → ((t : Cut) (p : Read) → R t p → p ≡ record { place = at; token = t }) → r ≡ ok_or m (record { place = at }) → Means r (part_token at part o)
+given_by at part o m r R h k e = let P : Result Read WordFault → Type 0 = λ x. Means x (part_token at part o) in subst P (sym e) (look o m h)
+  where
+    look : (o : Option Cut) (m : Option Read) → MatchOption o (m ≡ None) (λ t. IsSomeAnd m (R t)) → Means (ok_or m (record { place = at })) (part_token at part o)
+    look None None h = (part, refl)
+    look None (Some p) h = cc
+    look (Some t) None h = absurd h
+    look (Some t) (Some p) h = ap (λ (x : Read). ((x.place, bytes_of x.token), kind_of x.token)) (sym (k t p h))
 
-pub gave : (a b : Reader) (o : Option Read) → Gives a b (Ok o) → (p : Read) → o ≡ Some p → rest_of a ≡ meaning p ∷ rest_of b
-gave a b o g p e = let Q : Option Read → Type 0 = λ x. Gives a b (Ok x) in subst Q e g
-
-pub gave_none : (a b : Reader) (o : Option Read) → Gives a b (Ok o) → o ≡ None → (rest_of a ≡ []) × (rest_of b ≡ [])
-gave_none a b o g e = let Q : Option Read → Type 0 = λ x. Gives a b (Ok x) in subst Q e g
+pub progress : (a : Reader) (r : Option (Result Read WordFault)) (b : Reader) → Gives a r b → MakesProgress (λ _. Unit {0}) (item_count rest_of) a r b
+progress a None b g = record { on = λ _. tt; keeps = tt; rests = λ _. tt }
+progress a (Some x) b g = record { on = λ _. (tt, tt, omega (arith, ap length g.0.2)); keeps = tt; rests = λ _. tt }
 
 -- the first problem line, past other tokens
 
-pub in_none : (ts : List Placed) → ts ≡ [] → None ≡ variables_in ts
+pub variables_none : (a : Reader) → rest_of a ≡ [] → None ≡ variables_in (rest_of a)
 unfolding variables_in
-in_none ts e = sym (ap variables_in e)
+variables_none a e = sym (ap variables_in e)
 
-pub past_word : (ts us : List Placed) (p : Piece) → ts ≡ (p, no_number) ∷ us → variables_in us ≡ variables_in ts
+pub past_word : (a b : Reader) (p : Result Read WordFault) (e : WordFault) → Gives a (Some p) b → p ≡ Err e → variables_in (rest_of b) ≡ variables_in (rest_of a)
 unfolding variables_in
-past_word ts us p e = sym (ap variables_in e)
+past_word a b p e g q = let m = at_word p e g.0.0 q g.0.1 in sym (ap variables_in (g.0.2 ∙ ap (λ (x : Placed). x ∷ rest_of b) m.1))
 
-pub past_token : (ts us : List Placed) (p : Read) → ts ≡ meaning p ∷ us → ((l : Bor (List ℕ)) → p.token ≡ Problem l → ⊥) → variables_in us ≡ variables_in ts
+pub past_token : (a b : Reader) (p : Result Read WordFault) (q : Read) → Gives a (Some p) b → p ≡ Ok q → ((l : Bor (List ℕ)) → q.token ≡ Problem l → ⊥) → variables_in (rest_of b) ≡ variables_in (rest_of a)
 unfolding variables_in
-past_token ts us p e h = look p.token h ∙ sym (ap variables_in e)
+past_token a b p q g e h = look q.token h ∙ sym (ap variables_in (g.0.2 ∙ ap (λ (x : Placed). x ∷ rest_of b) (at_token p q q.token g.0.0 e refl g.0.1)))
   where
-    look : (t : Cut) → ((l : Bor (List ℕ)) → t ≡ Problem l → ⊥) → variables_in us ≡ variables_in (((p.place, bytes_of t), kind_of t) ∷ us)
-    look (Number w t) h = refl
+    look : (t : Cut) → ((l : Bor (List ℕ)) → t ≡ Problem l → ⊥) → variables_in (rest_of b) ≡ variables_in (((q.place, bytes_of t), kind_of t) ∷ rest_of b)
+    look (Number w x) h = refl
     look (Comment l) h = refl
     look (Problem l) h = absurd (h l refl)
     look (LineEnd l) h = refl
 
-pub at_problem : (ts us : List Placed) (p : Read) (l : Bor (List ℕ)) (o : Option ProblemLine) → ts ≡ meaning p ∷ us → p.token ≡ Problem l → o ≡ counts (spellings l.now) → variables_told o ≡ variables_in ts
+pub at_problem : (a b : Reader) (p : Result Read WordFault) (q : Read) (l : Bor (List ℕ)) (o : Option ProblemLine) → Gives a (Some p) b → p ≡ Ok q → q.token ≡ Problem l → o ≡ counts (spellings l.now) → variables_told o ≡ variables_in (rest_of a)
 unfolding variables_in
-at_problem ts us p l o e t q = sym (ap variables_in (e ∙ ap (λ (x : Cut). ((p.place, bytes_of x), kind_of x) ∷ us) t) ∙ ap (λ (x : Option ProblemLine). variables_told x) (sym q))
+at_problem a b p q l o g e t c = sym (ap variables_in (g.0.2 ∙ ap (λ (x : Placed). x ∷ rest_of b) (at_token p q (Problem l) g.0.0 e t g.0.1)) ∙ ap (λ (x : Option ProblemLine). variables_told x) (sym c))

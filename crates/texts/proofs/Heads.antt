@@ -1,6 +1,6 @@
 -- What the functions on the problem line need.
-use Rattle.std.proofs.Common.{◌≡◌, ℕ, suc, ◌+◌, ◌<◌, ◌≤◌, Bool, true, false, cond, ◌&&◌, eqb, ◌≢◌, List, [], ◌∷◌, length, get_or, drop, Some, None, codes, Option, sym, refl, ap, ◌∙◌}
-use Rattle.std.proofs.lemmas.List.{drop_more, drop_all}
+use Rattle.std.proofs.Common.{◌≡◌, ℕ, ◌≢◌, Bool, true, false, not, cond, ◌&&◌, eqb, List, [], ◌∷◌, length, get_or, Some, None, codes, Option, sym, refl, ap, ◌∙◌}
+use Rattle.std.specs.Cmp.Lexicographic.{pointwise}
 use Rattle.std.proofs.lemmas.Bool.{eq-eqb, ne_eqb, and_left, and_right, cond-false}
 use Rattle.model.specs.declared.ProblemLine.{ProblemLine}
 use Rattle.model.specs.Numbers.{natural}
@@ -8,27 +8,19 @@ use Rattle.model.specs.Reading.{same_bytes, counted, counts}
 
 -- two words, byte by byte
 
-pub same_length : (a b : List ℕ) → length a ≢ length b → same_bytes a b ≡ false
+same_pointwise : (a b : List ℕ) → same_bytes a b ≡ pointwise eqb a b
 unfolding same_bytes
-same_length [] [] h = absurd (h refl)
-same_length [] (y ∷ b) h = refl
-same_length (x ∷ a) [] h = refl
-same_length (x ∷ a) (y ∷ b) h = and_right (eqb x y) (same_bytes a b) (same_length a b (λ e. h (ap suc e)))
+same_pointwise [] [] = refl
+same_pointwise [] (y ∷ b) = refl
+same_pointwise (x ∷ a) [] = refl
+same_pointwise (x ∷ a) (y ∷ b) = ap (λ t. eqb x y && t) (same_pointwise a b)
 
-module _ (a b : List ℕ) (i : ℕ) (la : i < length a) (lb : i < length b) where
-  here : same_bytes (drop i a) (drop i b) ≡ (eqb (get_or a i 0) (get_or b i 0) && same_bytes (drop (i + 1) a) (drop (i + 1) b))
-  unfolding same_bytes
-  here = rw (drop_more a i 0 la, drop_more b i 0 lb) refl
+not_not : (t : Bool) → not (not t) ≡ t
+not_not true = refl
+not_not false = refl
 
-  pub same_more : get_or a i 0 ≡ get_or b i 0 → same_bytes (drop (i + 1) a) (drop (i + 1) b) ≡ same_bytes (drop i a) (drop i b)
-  same_more e = sym (here ∙ rw (eq-eqb (get_or a i 0) (get_or b i 0) e) refl)
-
-  pub same_broken : get_or a i 0 ≢ get_or b i 0 → same_bytes (drop i a) (drop i b) ≡ false
-  same_broken e = here ∙ and_left _ _ (ne_eqb (get_or a i 0) (get_or b i 0) e)
-
-pub same_done : (a b : List ℕ) (i : ℕ) → length a ≤ i → length b ≤ i → same_bytes (drop i a) (drop i b) ≡ true
-unfolding same_bytes
-same_done a b i la lb = rw (drop_all i a la, drop_all i b lb) refl
+pub same_by : (t : Bool) (a b c : List ℕ) → t ≡ not (pointwise eqb a b) → b ≡ c → same_bytes a c ≡ not t
+same_by t a b c h e = same_pointwise a c ∙ (ap (pointwise eqb a) (sym e) ∙ (sym (not_not (pointwise eqb a b)) ∙ ap not (sym h)))
 
 -- the counts of a line that is not four words, not these words, or without a number
 

@@ -1,11 +1,12 @@
 pub mod Pieces
+pub mod Words
 pub mod Rests
 pub mod Digits
 pub mod Heads
 pub mod StepsTaken
 pub mod Passing
-pub mod Given
 pub mod Accepting
 pub mod Course
 pub mod Spelled
 pub mod Back
+pub mod Given

@@ -1,7 +1,10 @@
 -- What splitting gives, and the words of a line.
-use Rattle.std.proofs.Common.{◌≡◌, ℕ, suc, ◌+◌, ◌<◌, Bool, true, false, cond, List, [], ◌∷◌, ◌++◌, length, sym, refl, ap, ◌∙◌, append-nil, arith}
+use Rattle.std.proofs.Common.{◌≡◌, ℕ, zero, suc, ◌+◌, ◌<◌, ◌≤◌, Bool, true, false, not, cond, ltb, List, [], ◌∷◌, ◌++◌, length, get_or, take, drop, Some, None, unwrap_or, sym, refl, ap, ◌∙◌, subst, append-nil, arith}
+use Rattle.std.specs.List.{position_or_len}
+use Rattle.std.proofs.lemmas.Bool.{true≢false, ltb-false}
+use Rattle.std.proofs.lemmas.List.Sums.{prefix_len-le-length}
 use Rattle.model.specs.Words.{Piece, grow, split, filled, words, ends_line, ends_word}
-use Rattle.texts.specs.Scan.{Clear, Stops}
+use Rattle.texts.specs.Scan.{Clear, Stops, front}
 
 pub split_piece : (cuts : ℕ → Bool) (at : ℕ) (w : List ℕ) (s : ℕ) (rest : List ℕ) → Clear cuts w → cuts s ≡ true → split cuts at (w ++ (s ∷ rest)) ≡ (at, w) ∷ split cuts (suc (at + length w)) rest
 unfolding split grow
@@ -27,11 +30,7 @@ unfolding filled
 filled_piece at [] ps h = absurd (omega arith)
 filled_piece at (b ∷ w) ps h = refl
 
--- the bytes before the first cut, and the pieces after it
-abbrev pub front : (ℕ → Bool) → List ℕ → List ℕ
-front cuts [] = []
-front cuts (b ∷ bs) = cond (cuts b) [] (b ∷ front cuts bs)
-
+-- the pieces after the first cut
 unfoldable pub beyond : (ℕ → Bool) → ℕ → List ℕ → List Piece
 beyond cuts at [] = []
 beyond cuts at (b ∷ bs) = cond (cuts b) (split cuts (suc at) bs) (beyond cuts (suc at) bs)
@@ -56,10 +55,64 @@ beyond-++ cuts at (b ∷ w) t c =
     let z : suc at + length w ≡ at + suc (length w) = omega arith in
     rw c.0 (beyond-++ cuts (suc at) w t c.1 ∙ ap (λ k. beyond cuts k t) z)
 
+-- the bytes before the first cut, and the others
+
+pub clear_at : (cuts : ℕ → Bool) (w : List ℕ) (k : ℕ) → Clear cuts w → k < length w → cuts (get_or w k 0) ≡ false
+clear_at cuts [] k c l = absurd (omega arith)
+clear_at cuts (b ∷ w) zero c l = c.0
+clear_at cuts (b ∷ w) (suc k) c l = clear_at cuts w k c.1 (omega arith)
+
+pub record Fronted (cuts : ℕ → Bool) (bs w : List ℕ) : Type 0 where
+  pub clear : Clear cuts w
+  pub parts : bs ≡ w ++ drop (length w) bs
+  pub stops : Stops cuts (drop (length w) bs)
+
+front_fronted : (cuts : ℕ → Bool) (bs : List ℕ) → Fronted cuts bs (front cuts bs)
+front_fronted cuts [] = record { clear = tt; parts = refl; stops = tt }
+front_fronted cuts (b ∷ bs) = look (cuts b) refl (front_fronted cuts bs)
+  where
+    look : (t : Bool) → cuts b ≡ t → Fronted cuts bs (front cuts bs) → Fronted cuts (b ∷ bs) (cond t [] (b ∷ front cuts bs))
+    look true e r = record { clear = tt; parts = refl; stops = e }
+    look false e r = record { clear = (e, r.clear); parts = ap (λ z. b ∷ z) r.parts; stops = r.stops }
+
+pub fronted : (cuts : ℕ → Bool) (bs w : List ℕ) → w ≡ front cuts bs → Fronted cuts bs w
+fronted cuts bs w e = subst (Fronted cuts bs) (sym e) (front_fronted cuts bs)
+
+pub front_some : (cuts : ℕ → Bool) (bs w : List ℕ) → Fronted cuts bs w → 0 < length bs → cuts (get_or bs 0 0) ≡ false → 0 < length w
+front_some cuts [] w h l n = absurd (omega arith)
+front_some cuts (b ∷ bs) [] h l n = absurd (true≢false (sym h.stops ∙ n))
+front_some cuts (b ∷ bs) (x ∷ w) h l n = omega arith
+
+pub front_first : (cuts : ℕ → Bool) (bs w : List ℕ) → Fronted cuts bs w → 0 < length w → get_or w 0 0 ≡ get_or bs 0 0
+front_first cuts bs [] h l = absurd (omega arith)
+front_first cuts bs (x ∷ w) h l = sym (ap (λ z. get_or z 0 0) h.parts)
+
+-- the first place at which a test passes ends them
+
+front_at : (cuts : ℕ → Bool) (bs : List ℕ) → take (position_or_len cuts bs) bs ≡ front cuts bs
+front_at cuts [] = refl
+front_at cuts (b ∷ bs) = look (cuts b) (front_at cuts bs)
+  where
+    look : (t : Bool) → take (position_or_len cuts bs) bs ≡ front cuts bs → take (cond (not t) (1 + position_or_len cuts bs) 0) (b ∷ bs) ≡ cond t [] (b ∷ front cuts bs)
+    look true e = refl
+    look false e =
+        let z : 1 + position_or_len cuts bs ≡ suc (position_or_len cuts bs) = omega arith in
+        ap (λ k. take k (b ∷ bs)) z ∙ ap (λ w. b ∷ w) e
+
+place_or_end : (p l : ℕ) → p ≤ l → unwrap_or (cond (ltb p l) (Some p) None) l ≡ p
+place_or_end p l h = look (ltb p l) refl
+  where
+    look : (t : Bool) → ltb p l ≡ t → unwrap_or (cond t (Some p) None) l ≡ p
+    look true e = refl
+    look false e = omega (arith, ltb-false p l e)
+
+pub front_by : (cuts : ℕ → Bool) (bs : List ℕ) (n : ℕ) → n ≡ unwrap_or (cond (ltb (position_or_len cuts bs) (length bs)) (Some (position_or_len cuts bs)) None) (length bs) → take n bs ≡ front cuts bs
+front_by cuts bs n e = ap (λ k. take k bs) (e ∙ place_or_end (position_or_len cuts bs) (length bs) (prefix_len-le-length (λ x. not (cuts x)) bs)) ∙ front_at cuts bs
+
 -- what stands before the line's end stops a word too
-pub front_stops : (t : List ℕ) → Stops ends_word t → Stops ends_word (front ends_line t)
-front_stops [] s = tt
-front_stops (b ∷ t) s = look (ends_line b) refl
+pub line_stops : (t : List ℕ) → Stops ends_word t → Stops ends_word (front ends_line t)
+line_stops [] s = tt
+line_stops (b ∷ t) s = look (ends_line b) refl
   where
     look : (e : Bool) → ends_line b ≡ e → Stops ends_word (cond e [] (b ∷ front ends_line t))
     look true h = tt

@@ -1,11 +1,13 @@
 -- What is left of a text, token by token.
-use Rattle.std.proofs.Common.{◌≡◌, ℕ, suc, ◌+◌, ◌-◌, ◌<◌, ◌≤◌, Bool, true, false, cond, ◌||◌, eqb, ◌≢◌, List, [], ◌∷◌, ◌++◌, length, get_or, take, drop, sym, refl, ap, ◌∙◌, subst, ⊎_elim, append-nil, add-zero, arith}
-use Rattle.std.proofs.lemmas.Bool.{eqb-true, ne_eqb, or_cases, or_parts, cases_lt, true≢false}
-use Rattle.std.proofs.lemmas.List.{take-append-drop, drop-drop, drop_more, drop_all, length-take-le, length-drop, length-append, get_or-take, get_or-drop, take_more}
+use Rattle.std.proofs.Common.{◌≡◌, ℕ, suc, ◌+◌, ◌-◌, ◌<◌, Bool, true, false, not, cond, ◌||◌, eqb, ◌≢◌, List, [], ◌∷◌, ◌++◌, length, get_or, take, drop, ℤ, Some, None, Option, MatchOption, IsSomeAnd, Bor, sym, refl, ap, ◌∙◌, subst, ⊎_elim, append-nil, add-zero, arith}
+use Rattle.std.proofs.lemmas.Bool.{eqb-true, ne_eqb, or_cases, or_parts, not-false, not-true}
+use Rattle.std.proofs.lemmas.List.{take_rest, drop-drop, length-drop, length-append, get_or-drop, get_or_append_left}
+use Rattle.texts.specs.declared.Token.{Token as Cut}
+use Rattle.texts.specs.declared.Token.TheVariants.{Number, Comment, Problem, LineEnd}
 use Rattle.model.specs.Numbers.{integer}
 use Rattle.model.specs.Words.{Piece, Placed, comment, problem, line_end, spelt, split, grow, words, word_tokens, ends_line, ends_word, blank, line_tokens, all_tokens, lines, tokens}
-use Rattle.texts.specs.Scan.{Clear, Stops, Spans, after_line, rest_pieces, rest_tokens}
-use Rattle.texts.proofs.Pieces.{split_piece, split_last, clear-++, front, beyond, split_front, front-++, beyond-++, front_stops, words_none, words_gap, words_more}
+use Rattle.texts.specs.Scan.{Clear, Stops, front, after_line, rest_pieces, rest_tokens, line_begins, bytes_of, kind_of, part_token, FirstPart}
+use Rattle.texts.proofs.Pieces.{split_piece, split_last, clear_at, Fronted, fronted, front_some, front_first, line_stops, beyond, split_front, front-++, beyond-++, words_none, words_gap, words_more}
 
 -- the end of a line, as a token
 abbrev end_at : ℕ → Placed
@@ -66,16 +68,6 @@ rest_blank f at b bs h =
     look true = ap (λ y. y ++ after_line (at + suc (length (front ends_line bs))) (beyond ends_line (suc at) bs)) (blank_line at b (front ends_line bs) h)
     look false = ap (λ y. word_tokens y ++ after_line (at + suc (length (front ends_line bs))) (beyond ends_line (suc at) bs)) (blank_words at b (front ends_line bs) h)
 
-pub rest_pass : (f : Bool) (at : ℕ) (text : List ℕ) → at < length text → blank (get_or text at 0) ≡ true → rest_tokens false (at + 1) (drop (at + 1) text) ≡ rest_tokens f at (drop at text)
-rest_pass f at text l h =
-    let z : suc at ≡ at + 1 = omega arith in
-    sym (ap (rest_tokens f at) (drop_more text at 0 l) ∙ (rest_blank f at (get_or text at 0) (drop (at + 1) text) h ∙ ap (λ k. rest_tokens false k (drop (at + 1) text)) z))
-
-pub words_pass : (at : ℕ) (line : List ℕ) → at < length line → ends_word (get_or line at 0) ≡ true → words (at + 1, drop (at + 1) line) ≡ words (at, drop at line)
-words_pass at line l h =
-    let z : suc at ≡ at + 1 = omega arith in
-    sym (ap (λ y. words (at, y)) (drop_more line at 0 l) ∙ (words_gap at (get_or line at 0) (drop (at + 1) line) h ∙ ap (λ k. words (k, drop (at + 1) line)) z))
-
 -- a whole line
 rest_line : (at : ℕ) (l tail : List ℕ) → Clear ends_line l → Stops ends_line tail → rest_tokens true at (l ++ tail) ≡ line_tokens (at, l) ++ rest_tokens false (at + length l) tail
 unfolding rest_tokens rest_pieces after_line
@@ -99,7 +91,7 @@ unfolding rest_tokens rest_pieces word_tokens
 rest_word f at b w tail n c s =
     let cl = clear_line (b ∷ w) c in
     let e : split ends_line at ((b ∷ w) ++ tail) ≡ (at, (b ∷ w) ++ u) ∷ ls = split_front ends_line at ((b ∷ w) ++ tail) ∙ (ap (λ z. (at, z) ∷ beyond ends_line at ((b ∷ w) ++ tail)) (front-++ ends_line (b ∷ w) tail cl) ∙ ap (λ z. (at, (b ∷ w) ++ u) ∷ z) (beyond-++ ends_line at (b ∷ w) tail cl)) in
-    let m = words_more at (b ∷ w) u c (omega arith) (front_stops tail s) in
+    let m = words_more at (b ∷ w) u c (omega arith) (line_stops tail s) in
     ap (rest_pieces f) e ∙ (look f n ∙ (ap (λ z. word_tokens z ++ after_line (at + length ((b ∷ w) ++ u)) ls) m ∙ (ap (λ k. word_tokens ((at, b ∷ w) ∷ words (at + length (b ∷ w), u)) ++ after_line k ls) far ∙ ap (λ z. ((at, b ∷ w), spelt (integer (b ∷ w))) ∷ rest_pieces false z) (sym (split_front ends_line (at + length (b ∷ w)) tail)))))
   where
     u : List ℕ
@@ -115,101 +107,106 @@ rest_word f at b w tail n c s =
     look true n = ap (λ z. z ++ after_line (at + length ((b ∷ w) ++ u)) ls) (plain_line at b (w ++ u) (n refl).0 (n refl).1)
     look false n = refl
 
--- the parts that the code cuts
+rest_any_word : (f : Bool) (at : ℕ) (w tail : List ℕ) → 0 < length w → (f ≡ true → (get_or w 0 0 ≢ 99) × (get_or w 0 0 ≢ 112)) → Clear ends_word w → Stops ends_word tail → rest_tokens f at (w ++ tail) ≡ ((at, w), spelt (integer w)) ∷ rest_tokens false (at + length w) tail
+rest_any_word f at [] tail l n c s = absurd (omega arith)
+rest_any_word f at (b ∷ w) tail l n c s = rest_word f at b w tail n c s
 
-pub clear_more : (cuts : ℕ → Bool) (text : List ℕ) (from n : ℕ) → from ≤ n → n < length text → cuts (get_or text n 0) ≡ false → Clear cuts (take (n - from) (drop from text)) → Clear cuts (take ((n + 1) - from) (drop from text))
-clear_more cuts text from n h l e c =
-    let a : (n + 1) - from ≡ (n - from) + 1 = omega arith in
-    let k : n - from < length (drop from text) = rw length-drop (omega arith) in
-    let g : get_or (drop from text) (n - from) 0 ≡ get_or text n 0 = get_or-drop from text (n - from) 0 ∙ ap (λ z. get_or text z 0) (let z : from + (n - from) ≡ n = omega arith in z) in
-    rw (a, take_more (drop from text) (n - from) 0 k) (clear-++ cuts (take (n - from) (drop from text)) (get_or (drop from text) (n - from) 0 ∷ []) c (ap cuts g ∙ e, tt))
+-- past the blanks
 
-pub stops_at : (cuts : ℕ → Bool) (text : List ℕ) (n : ℕ) → n < length text → cuts (get_or text n 0) ≡ true → Stops cuts (drop n text)
-stops_at cuts text n l e = rw (drop_more text n 0 l) e
-
-pub stops_end : (cuts : ℕ → Bool) (text : List ℕ) (n : ℕ) → length text ≤ n → Stops cuts (drop n text)
-stops_end cuts text n l = rw (drop_all n text l) tt
-
-module _ (cuts : ℕ → Bool) (text : List ℕ) (at to : ℕ) (s : Spans cuts text at to) (l : at < length text) (n : cuts (get_or text at 0) ≡ false) where
-  abbrev part : List ℕ
-  part = take (to - at) (drop at text)
-
-  pub went_on : at < to
-  went_on = ⊎_elim (λ h. h) (λ h. absurd (stuck (let z : to ≡ at = omega (arith, s.up) in z))) (cases_lt at to)
-    where
-      stuck : to ≡ at → ⊥
-      stuck e = let P : ℕ → Type 0 = λ k. Stops cuts (drop k text) in let q : Stops cuts (get_or text at 0 ∷ drop (at + 1) text) = rw (drop_more text at 0 l) at (subst P e s.stops) in true≢false (sym q ∙ n)
-
-  pub part_long : length part ≡ to - at
-  part_long = length-take-le (to - at) (drop at text) (rw length-drop (omega (arith, s.inside)))
-
-  parted : drop at text ≡ part ++ drop to text
-  parted =
-      let z : at + (to - at) ≡ to = omega (arith, s.up) in
-      sym (ap (λ x. part ++ x) (sym (drop-drop (to - at) at text ∙ ap (λ k. drop k text) z)) ∙ take-append-drop (to - at) (drop at text))
-
-  pub first_of : get_or part 0 0 ≡ get_or text at 0
-  first_of =
-      let h : 0 < to - at = omega (arith, went_on) in
-      get_or-take (to - at) (drop at text) 0 0 h ∙ (get_or-drop at text 0 0 ∙ ap (λ k. get_or text k 0) (add-zero at))
-
-  goes_to : at + length part ≡ to
-  goes_to = omega (arith, part_long, s.up)
-
-  headed_by : part ≡ get_or text at 0 ∷ drop 1 part
-  headed_by = split_off part (omega (arith, part_long, went_on)) first_of
-    where
-      split_off : (w : List ℕ) → 0 < length w → get_or w 0 0 ≡ get_or text at 0 → w ≡ get_or text at 0 ∷ drop 1 w
-      split_off [] h e = absurd (omega arith)
-      split_off (b ∷ w) h e = ap (λ x. x ∷ w) e
-
-pub next_line : (text : List ℕ) (at to : ℕ) → Spans ends_line text at to → at < length text → ends_line (get_or text at 0) ≡ false → rest_tokens true at (drop at text) ≡ line_tokens (at, take (to - at) (drop at text)) ++ rest_tokens false to (drop to text)
-next_line text at to s l n =
-    ap (rest_tokens true at) (parted ends_line text at to s l n) ∙ (rest_line at (take (to - at) (drop at text)) (drop to text) s.clear s.stops ∙ ap (λ k. line_tokens (at, take (to - at) (drop at text)) ++ rest_tokens false k (drop to text)) (goes_to ends_line text at to s l n))
-
-pub next_word : (f : Bool) (text : List ℕ) (at to : ℕ) → Spans ends_word text at to → at < length text → ends_word (get_or text at 0) ≡ false → (f ≡ true → (get_or text at 0 ≢ 99) × (get_or text at 0 ≢ 112)) → rest_tokens f at (drop at text) ≡ ((at, take (to - at) (drop at text)), spelt (integer (take (to - at) (drop at text)))) ∷ rest_tokens false to (drop to text)
-next_word f text at to s l n p =
-    let w = take (to - at) (drop at text) in
-    let h = headed_by ends_word text at to s l n in
-    let c : Clear ends_word (get_or text at 0 ∷ drop 1 w) = rw h at s.clear in
-    let b = get_or text at 0 in
-    ap (rest_tokens f at) (parted ends_word text at to s l n) ∙ (ap (λ z. rest_tokens f at (z ++ drop to text)) h ∙ (rest_word f at b (drop 1 w) (drop to text) p c s.stops ∙ (ap (λ z. ((at, z), spelt (integer z)) ∷ rest_tokens false (at + length z) (drop to text)) (sym h) ∙ ap (λ k. ((at, w), spelt (integer w)) ∷ rest_tokens false k (drop to text)) (goes_to ends_word text at to s l n))))
-
-pub next_of_line : (line : List ℕ) (at to : ℕ) → Spans ends_word line at to → at < length line → ends_word (get_or line at 0) ≡ false → words (at, drop at line) ≡ (at, take (to - at) (drop at line)) ∷ words (to, drop to line)
-next_of_line line at to s l n =
-    let w = take (to - at) (drop at line) in
-    let long : 0 < length w = omega (arith, part_long ends_word line at to s l n, went_on ends_word line at to s l n) in
-    ap (λ z. words (at, z)) (parted ends_word line at to s l n) ∙ (words_more at w (drop to line) s.clear long s.stops ∙ ap (λ k. (at, w) ∷ words (k, drop to line)) (goes_to ends_word line at to s l n))
-
-pub comment_line : (at : ℕ) (l : List ℕ) → get_or l 0 0 ≡ 99 → line_tokens (at, l) ≡ ((at, l), comment) ∷ []
-unfolding line_tokens
-comment_line at l e = rw e
-
-pub problem_line : (at : ℕ) (l : List ℕ) → get_or l 0 0 ≡ 112 → line_tokens (at, l) ≡ ((at, l), problem) ∷ []
-unfolding line_tokens
-problem_line at l e = rw e
-
-pub next_end : (f : Bool) (text : List ℕ) (at : ℕ) → at < length text → get_or text at 0 ≡ 10 → rest_tokens f at (drop at text) ≡ end_at at ∷ rest_tokens true (at + 1) (drop (at + 1) text)
-next_end f text at l e =
+rest_blanks : (f : Bool) (at : ℕ) (w tail : List ℕ) → Clear (λ b. not (blank b)) w → 0 < length w → rest_tokens f at (w ++ tail) ≡ rest_tokens false (at + length w) tail
+rest_blanks f at [] tail c l = absurd (omega arith)
+rest_blanks f at (b ∷ []) tail c l =
     let z : suc at ≡ at + 1 = omega arith in
-    ap (rest_tokens f at) (drop_more text at 0 l) ∙ (rest_line_end f at (get_or text at 0) (drop (at + 1) text) e ∙ ap (λ k. end_at at ∷ rest_tokens true k (drop (at + 1) text)) z)
+    rest_blank f at b tail (not-false (blank b) c.0) ∙ ap (λ k. rest_tokens false k tail) z
+rest_blanks f at (b ∷ (x ∷ w)) tail c l =
+    let z : suc at + length (x ∷ w) ≡ at + length (b ∷ (x ∷ w)) = omega arith in
+    rest_blank f at b ((x ∷ w) ++ tail) (not-false (blank b) c.0) ∙ (rest_blanks false (suc at) (x ∷ w) tail c.1 (omega arith) ∙ ap (λ k. rest_tokens false k tail) z)
 
-pub one_byte : (text : List ℕ) (at b : ℕ) → at < length text → get_or text at 0 ≡ b → take ((at + 1) - at) (drop at text) ≡ b ∷ []
-one_byte text at b l e =
-    let z : (at + 1) - at ≡ 1 = omega arith in
-    rw z (ap (take 1) (drop_more text at 0 l) ∙ ap (λ x. x ∷ []) e)
+-- where a line begins, by the byte before
 
--- what is left to a reader, by the parts of it
-pub left_there : (f : Bool) (k : ℕ) (t : List ℕ) (g : Bool) (to : ℕ) (text : List ℕ) → f ≡ g → k ≡ to → t ≡ text → rest_tokens g to (drop to text) ≡ rest_tokens f k (drop k t)
-left_there f k t g to text a b e = cc
+begins_after : (text : List ℕ) (at : ℕ) (part tail : List ℕ) → drop at text ≡ part ++ tail → 0 < length part → line_begins text (at + length part) ≡ ends_line (get_or part (length part - 1) 0)
+begins_after text at part tail e l =
+    let z : at + length part - 1 ≡ at + (length part - 1) = omega arith in
+    let same : get_or text (at + length part - 1) 0 ≡ get_or part (length part - 1) 0 = ap (λ k. get_or text k 0) z ∙ (sym (get_or-drop at text (length part - 1) 0) ∙ (ap (λ w. get_or w (length part - 1) 0) e ∙ get_or_append_left part tail 0 (length part - 1) (omega arith))) in
+    rw (ne_eqb (at + length part) 0 (λ q. omega (arith, q))) (ap ends_line same)
 
-pub no_line_end : (b : ℕ) → ends_word b ≡ false → ends_line b ≡ false
-no_line_end b h = (or_parts (ends_line b) (blank b) h).0
+no_line_in_blanks : (w : List ℕ) → Clear (λ b. not (blank b)) w → 0 < length w → ends_line (get_or w (length w - 1) 0) ≡ false
+no_line_in_blanks w c l = blank_cases (λ x. ends_line x ≡ false) _ (not-false (blank (get_or w (length w - 1) 0)) (clear_at (λ b. not (blank b)) w (length w - 1) c (omega arith))) refl refl refl
+
+pub blanks : (text : List ℕ) (at : ℕ) (w : List ℕ) → w ≡ front (λ b. not (blank b)) (take (length text - at) (drop at text)) → Fronted (λ b. not (blank b)) (drop at text) w
+blanks text at w e = fronted (λ b. not (blank b)) (drop at text) w (e ∙ ap (front (λ b. not (blank b))) (take_rest text at))
+
+pub rest_skip : (text : List ℕ) (at : ℕ) (w : List ℕ) → Fronted (λ b. not (blank b)) (drop at text) w → rest_tokens (line_begins text at) at (drop at text) ≡ rest_tokens (line_begins text (at + length w)) (at + length w) (drop (at + length w) text)
+rest_skip text at [] h = let z : at ≡ at + 0 = omega arith in ap (λ k. rest_tokens (line_begins text k) k (drop k text)) z
+rest_skip text at (b ∷ v) h =
+    let w = b ∷ v in
+    let l : 0 < length w = omega arith in
+    let f : line_begins text (at + length w) ≡ false = begins_after text at w _ h.parts l ∙ no_line_in_blanks w h.clear l in
+    ap (rest_tokens (line_begins text at) at) h.parts ∙ (rest_blanks (line_begins text at) at w _ h.clear l ∙ (ap (λ z. rest_tokens z (at + length w) (drop (length w) (drop at text))) (sym f) ∙ ap (rest_tokens (line_begins text (at + length w)) (at + length w)) (drop-drop (length w) at text)))
+
+pub starts : (text : List ℕ) (at : ℕ) (w bs : List ℕ) → Fronted (λ b. not (blank b)) (drop at text) w → at + length w < length text → bs ≡ drop (at + length w) text → blank (get_or bs 0 0) ≡ false
+starts text at w bs h l e = look bs (omega (arith, ap length e, length-drop (at + length w) text)) (subst (Stops (λ b. not (blank b))) (drop-drop (length w) at text ∙ sym e) h.stops)
+  where
+    look : (bs : List ℕ) → 0 < length bs → Stops (λ b. not (blank b)) bs → blank (get_or bs 0 0) ≡ false
+    look [] l s = absurd (omega arith)
+    look (b ∷ bs) l s = not-true (blank b) s
+
+-- past the first part
+
+pub rest_part : (text : List ℕ) (at : ℕ) (part : List ℕ) (o : Option Cut) (f : Bool) (bs : List ℕ) → f ≡ line_begins text at → bs ≡ drop at text → FirstPart f bs part o → rest_tokens (line_begins text at) at (drop at text) ≡ part_token at part o ∷ rest_tokens (line_begins text (at + length part)) (at + length part) (drop (at + length part) text)
+rest_part text at part o f bs q e h =
+    ap (λ z. rest_tokens z at (drop at text)) (sym q) ∙ (ap (rest_tokens f at) (sym e) ∙ (h.gives at ∙ (ap (λ z. part_token at part o ∷ rest_tokens (ends_line (get_or part (length part - 1) 0)) (at + length part) z) (ap (drop (length part)) e ∙ drop-drop (length part) at text) ∙ ap (λ z. part_token at part o ∷ rest_tokens z (at + length part) (drop (at + length part) text)) (sym (begins_after text at part _ (sym e ∙ h.parts) h.some)))))
+
+-- the first part is a line that c or p opens, a word, or the end of a line
+
+line_part : (bs : List ℕ) (t : Cut) → 0 < length (bytes_of t) → Fronted ends_line bs (bytes_of t) → ((at : ℕ) → line_tokens (at, bytes_of t) ≡ ((at, bytes_of t), kind_of t) ∷ []) → FirstPart true bs (bytes_of t) (Some t)
+line_part bs t l h k =
+    let w = bytes_of t in
+    record {
+      some = l;
+      parts = h.parts;
+      gives = λ at. ap (rest_tokens true at) h.parts ∙ (rest_line at w (drop (length w) bs) h.clear h.stops ∙ (ap (λ y. y ++ rest_tokens false (at + length w) (drop (length w) bs)) (k at) ∙ ap (λ y. ((at, w), kind_of t) ∷ rest_tokens y (at + length w) (drop (length w) bs)) (sym (clear_at ends_line w (length w - 1) h.clear (omega arith)))));
+    }
+
+pub comment_part : (bs : List ℕ) (w : Bor (List ℕ)) → 0 < length bs → get_or bs 0 0 ≡ 99 → w.now ≡ front ends_line bs → FirstPart true bs w.now (Some (Comment w))
+unfolding line_tokens
+comment_part bs w l c e =
+    let h = fronted ends_line bs w.now e in
+    let s = front_some ends_line bs w.now h l (ap ends_line c) in
+    line_part bs (Comment w) s h (λ at. rw (front_first ends_line bs w.now h s ∙ c))
+
+pub problem_part : (bs : List ℕ) (w : Bor (List ℕ)) → 0 < length bs → get_or bs 0 0 ≡ 112 → w.now ≡ front ends_line bs → FirstPart true bs w.now (Some (Problem w))
+unfolding line_tokens
+problem_part bs w l c e =
+    let h = fronted ends_line bs w.now e in
+    let s = front_some ends_line bs w.now h l (ap ends_line c) in
+    line_part bs (Problem w) s h (λ at. rw (front_first ends_line bs w.now h s ∙ c))
+
+pub end_part : (f : Bool) (bs : List ℕ) (w : Bor (List ℕ)) → 0 < length bs → get_or bs 0 0 ≡ 10 → w.now ≡ take 1 bs → FirstPart f bs w.now (Some (LineEnd w))
+end_part f [] w l h e = absurd (omega arith)
+end_part f (b ∷ bs) w l h e =
+    let q : w.now ≡ 10 ∷ [] = e ∙ ap (λ x. x ∷ []) h in
+    record {
+      some = rw q (omega arith);
+      parts = rw q (ap (λ x. x ∷ bs) h);
+      gives = λ at. let z : suc at ≡ at + 1 = omega arith in rw q (rest_line_end f at b bs h ∙ ap (λ k. end_at at ∷ rest_tokens true k bs) z);
+    }
+
+pub word_part : (f : Bool) (bs w : List ℕ) (o : Option Cut) → 0 < length bs → ends_word (get_or bs 0 0) ≡ false → (f ≡ true → (get_or bs 0 0 ≢ 99) × (get_or bs 0 0 ≢ 112)) → w ≡ front ends_word bs → ((at : ℕ) → part_token at w o ≡ ((at, w), spelt (integer w))) → FirstPart f bs w o
+word_part f bs w o l n k e t =
+    let h = fronted ends_word bs w e in
+    let s = front_some ends_word bs w h l n in
+    let last = clear_at ends_line w (length w - 1) (clear_line w h.clear) (omega arith) in
+    record {
+      some = s;
+      parts = h.parts;
+      gives = λ at. ap (rest_tokens f at) h.parts ∙ (rest_any_word f at w (drop (length w) bs) s (λ q. rw (front_first ends_word bs w h s) (k q)) h.clear h.stops ∙ (ap (λ y. y ∷ rest_tokens false (at + length w) (drop (length w) bs)) (sym (t at)) ∙ ap (λ y. part_token at w o ∷ rest_tokens y (at + length w) (drop (length w) bs)) (sym last)));
+    }
 
 pub no_word_end : (b : ℕ) → b ≢ 10 → blank b ≡ false → ends_word b ≡ false
 no_word_end b h e = rw (ne_eqb b 10 h, e)
 
--- a reader passed the word w
-pub passed_word : (f : Bool) (text : List ℕ) (at to : ℕ) → Spans ends_word text at to → at < length text → ends_word (get_or text at 0) ≡ false → (f ≡ true → (get_or text at 0 ≢ 99) × (get_or text at 0 ≢ 112)) → (w : List ℕ) → w ≡ take (to - at) (drop at text) → (g : Bool) (k : ℕ) (t : List ℕ) → g ≡ false → k ≡ to → t ≡ text → rest_tokens f at (drop at text) ≡ ((at, w), spelt (integer w)) ∷ rest_tokens g k (drop k t)
-passed_word f text at to s l n p w e g k t a b d =
-    next_word f text at to s l n p ∙ (ap (λ z. ((at, z), spelt (integer z)) ∷ rest_tokens false to (drop to text)) (sym e) ∙ ap (λ z. ((at, w), spelt (integer w)) ∷ z) (left_there g k t false to text a b d))
+pub word_token : (at : ℕ) (w : Bor (List ℕ)) (i : Option ℤ) (o : Option Cut) (R : ℤ → Cut → Type 0) → MatchOption i (o ≡ None) (λ x. IsSomeAnd o (R x)) → ((x : ℤ) (t : Cut) → R x t → t ≡ Number w x) → part_token at w.now o ≡ ((at, w.now), spelt i)
+word_token at w None o R h k = ap (part_token at w.now) h
+word_token at w (Some x) None R h k = absurd h
+word_token at w (Some x) (Some t) R h k = ap (λ y. part_token at w.now (Some y)) (k x t h)

@@ -11,14 +11,12 @@ pub mod scan;
 mod spans;
 #[cfg(test)]
 mod tests;
-mod words;
 
-// A text and how far it is read; `fresh` where a line begins.
+// A text and how far it is read.
 #[derive(Drop)]
 pub struct Reader<'a> {
     text: &'a [u8],
     at: usize,
-    fresh: bool,
     ghost ok: { at ≤ length text.now },
 }
 
@@ -38,26 +36,9 @@ pub struct Placed<'a> {
     pub token: Token<'a>,
 }
 
-// What the first byte of a line opens.
-#[derive(Clone, Copy)]
-pub enum LineKind {
-    Comment,
-    Problem,
-    Number,
-    Other,
-}
-
 // A number after the problem line, and how many bytes stand before it.
 #[derive(Clone, Copy, PartialEq, Eq, Debug)]
 pub struct Numeral {
     pub place: usize,
     pub value: i32,
-}
-
-// The words of a line, from the first that is not given out yet.
-#[derive(Drop)]
-struct LineWords<'a> {
-    line: &'a [u8],
-    at: usize,
-    ghost ok: { at ≤ length line.now },
 }

@@ -1,9 +1,7 @@
 // Where words and lines end.
 ghost use Rattle.std.specs.Prelude.{◌≡◌, ◌≤◌, length};
-ghost use Rattle.model.specs.Words.{blank, ends_line, ends_word};
-ghost use Rattle.texts.specs.Scan.{Spans, Opens};
-
-use super::LineKind;
+ghost use Rattle.model.specs.Words.{blank, ends_word};
+ghost use Rattle.texts.specs.Scan.{Fronts, line_begins};
 
 pub(crate) fn is_blank(b: u8) -> bool
     ensures { result ≡ blank b }
@@ -17,38 +15,20 @@ pub(crate) fn cuts_words(b: u8) -> bool
     b == 10 || is_blank(b)
 }
 
-// What a line is, by its first byte.
-pub(crate) fn kind_of_line(first: u8) -> LineKind
-    ensures { Opens first result }
+// Whether a line begins at a place.
+pub(crate) fn begins_line(text: &[u8], at: usize) -> bool
+    requires { at ≤ length text.now }
+    ensures { result ≡ line_begins text.now at }
 {
-    match first as char {
-        'c' => LineKind::Comment,
-        'p' => LineKind::Problem,
-        '0'..='9' | '-' => LineKind::Number,
-        _ => LineKind::Other,
-    }
+    at == 0 || text[at - 1] == b'\n'
 }
 
-// The end of the line from a place on.
-pub(crate) fn line_to(text: &[u8], from: usize) -> usize
-    requires { from ≤ length text.now }
-    ensures { Spans ends_line text.now from result }
+// The bytes before the first at which `stops` holds, or all.
+pub(crate) fn front<F: FnMut(&u8) -> bool>(bytes: &[u8], stops: F) -> &[u8]
+    requires { F.IsAlwaysCallable stops }
+    ensures fronts { Fronts F.FnMut stops bytes.now result.now }
+    ensures within { length result.now ≤ length bytes.now }
 {
-    let mut n = from;
-    while n < text.len() && text[n] != 10 {
-        n += 1;
-    }
-    n
-}
-
-// The end of the word from a place on.
-pub(crate) fn word_to(text: &[u8], from: usize) -> usize
-    requires { from ≤ length text.now }
-    ensures { Spans ends_word text.now from result }
-{
-    let mut n = from;
-    while n < text.len() && !cuts_words(text[n]) {
-        n += 1;
-    }
-    n
+    let n = bytes.iter().position(stops).unwrap_or(bytes.len());
+    &bytes[..n]
 }

@@ -1,37 +1,40 @@
-use Rattle.std.proofs.Common.{ap, ◌∙◌}
-use Rattle.model.specs.Words.{Token}
-use Rattle.model.specs.Reading.{step, step_before}
+use Rattle.std.proofs.Common.{◌≡◌, None, Err, ok_or, ⊎_elim, sym, ap, ◌∙◌}
+use Rattle.std.specs.Result.{result_ok}
+use Rattle.std.proofs.lemmas.Result.{err_from_is_err_and}
+use Rattle.model.specs.declared.TextFault.TheVariants.{Problem}
+use Rattle.model.specs.declared.ReadFault.TheVariants.{InText}
+use Rattle.model.specs.Reading.{stop, step, step_before}
 use Rattle.texts.specs.declared.Token.{Token as Cut}
 use Rattle.texts.specs.Scan.{bytes_of, kind_of}
-use Rattle.texts.proofs.StepsTaken.{before, bad_line, other_size, good_line}
+use Rattle.texts.proofs.StepsTaken.{before, at_token, word_before, bad_line, other_size, good_line}
 use Rattle.texts.proofs.reading.begun.Goals as goal
+
+pub returns-in_err-p : goal.returns-in_err-p
+returns-in_err-p c = λ s b t m.
+    let p = err_from_is_err_and c.from_residual.result c.from_residual.ensures.1 in
+    rw (p.1, p.2) (word_before c.args.n s b c.args.p _ t c.in_err-p.was m)
 
 pub returns-in-Comment : goal.returns-in-Comment
 unfolding step_before
-returns-in-Comment c = λ s b.
-    let p = c.args.p in
-    before c.args.n s b (p.place, bytes_of p.token) (kind_of p.token) ∙ ap (λ (k : Token). step_before s (p.place, bytes_of p.token) k) (ap kind_of c.in-Comment.is)
-
-pub returns-in-LineEnd : goal.returns-in-LineEnd
-unfolding step_before
-returns-in-LineEnd c = λ s b.
-    let p = c.args.p in
-    before c.args.n s b (p.place, bytes_of p.token) (kind_of p.token) ∙ ap (λ (k : Token). step_before s (p.place, bytes_of p.token) k) (ap kind_of c.in-LineEnd.is)
+returns-in-Comment c = λ s b t m.
+    let told : (k : Cut) → c.in_ok-p.p.token ≡ k → step s t ≡ step_before s (c.in_ok-p.p.place, bytes_of k) (kind_of k) = λ k q. ap (step s) (at_token c.args.p _ k t c.in_ok-p.was q m) ∙ before c.args.n s b _ _ in
+    ⊎_elim (λ k. told _ k.1) (λ k. told _ k.1) c.in-Comment.is
 
 pub returns-in-Number : goal.returns-in-Number
 unfolding step_before
-returns-in-Number c = λ s b.
-    let p = c.args.p in
-    before c.args.n s b (p.place, bytes_of p.token) (kind_of p.token) ∙ ap (λ (k : Token). step_before s (p.place, bytes_of p.token) k) (ap kind_of c.in-Number.is)
+returns-in-Number c = λ s b t m. ap (step s) (at_token c.args.p _ _ t c.in_ok-p.was c.in-Number.is m) ∙ before c.args.n s b _ _
 
-pub returns-in-None : goal.returns-in-None
-returns-in-None c = λ s b.
-    ap (λ (t : Cut). step s ((c.args.p.place, bytes_of t), kind_of t)) c.in-Problem.is ∙ bad_line c.args.n s b (c.args.p.place, c.in-Problem.line.now) c.in-None.ensures
+pub returns-in_err-counts-in-Problem : goal.returns-in_err-counts-in-Problem
+returns-in_err-counts-in-Problem c = λ s b t m.
+    let p = err_from_is_err_and c.from_residual-in_err-counts-in-Problem.result c.from_residual-in_err-counts-in-Problem.ensures.1 in
+    let none : c.counts_of.result ≡ None = c.ok_or.ensures.ok_part ∙ ap result_ok c.in_err-counts-in-Problem.was in
+    let e : Problem c.in_ok-p.p.place ≡ c.in_err-counts-in-Problem.field-0.0 = let was : c.ok_or.result ≡ Err c.in_err-counts-in-Problem.field-0.0 = c.in_err-counts-in-Problem.was in cc (c.ok_or.ensures.value, ap (λ o. ok_or o (Problem c.in_ok-p.p.place)) none) in
+    rw (p.1, p.2) (ap (step s) (at_token c.args.p _ _ t c.in_ok-p.was c.in-Problem.is m) ∙ (bad_line c.args.n s b _ (sym none ∙ c.counts_of.ensures) ∙ ap (λ x. stop (InText x)) e))
 
 pub returns-then-counts-n : goal.returns-then-counts-n
-returns-then-counts-n c = λ s b.
-    ap (λ (t : Cut). step s ((c.args.p.place, bytes_of t), kind_of t)) c.in-Problem.is ∙ other_size c.args.n s b (c.args.p.place, c.in-Problem.line.now) c.in-Some.counts c.in-Some.ensures c.if-counts-n.true
+returns-then-counts-n c = λ s b t m.
+    ap (step s) (at_token c.args.p _ _ t c.in_ok-p.was c.in-Problem.is m) ∙ other_size c.args.n s b _ c.in_ok-counts-in-Problem.counts (sym (c.ok_or.ensures.ok_part ∙ ap result_ok c.in_ok-counts-in-Problem.was) ∙ c.counts_of.ensures) c.if-counts-n.true
 
 pub returns-else-counts-n : goal.returns-else-counts-n
-returns-else-counts-n c = λ s b.
-    ap (λ (t : Cut). step s ((c.args.p.place, bytes_of t), kind_of t)) c.in-Problem.is ∙ good_line c.args.n s b (c.args.p.place, c.in-Problem.line.now) c.in-Some.counts c.in-Some.ensures c.if-counts-n.false
+returns-else-counts-n c = λ s b t m.
+    ap (step s) (at_token c.args.p _ _ t c.in_ok-p.was c.in-Problem.is m) ∙ good_line c.args.n s b _ c.in_ok-counts-in-Problem.counts (sym (c.ok_or.ensures.ok_part ∙ ap result_ok c.in_ok-counts-in-Problem.was) ∙ c.counts_of.ensures) c.if-counts-n.false
