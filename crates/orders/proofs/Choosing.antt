@@ -1,4 +1,4 @@
-use Rattle.std.proofs.Common.{◌≡◌, ℕ, zero, suc, ◌+◌, ◌-◌, Bool, true, false, eqb, cond, ◌≢◌, List, [], ◌∷◌, ◌++◌, length, Option, Some, None, sym, refl, ap, ◌∙◌, subst, arith, true-eqb, false-eqb}
+use Rattle.std.proofs.Common.{◌≡◌, ℕ, zero, suc, ◌+◌, ◌-◌, Bool, true, false, eqb, cond, ◌≢◌, List, [], ◌∷◌, ◌++◌, length, Option, IfSome, Some, None, sym, refl, ap, ◌∙◌, subst, arith, true-eqb, false-eqb}
 use Rattle.std.proofs.lemmas.Iterator.{YieldsList}
 use Rattle.std.proofs.lemmas.Iterator.Consumers.{YieldsList-from_shown}
 use Rattle.std.specs.declared.ops.RangeInclusive.{RangeInclusive}
@@ -64,6 +64,10 @@ numbers_yielded s n a b e =
     let all : shown s ≡ numbers n = ap (λ k. range_with_len k (left s)) a ∙ (ap (range_with_len 1) l ∙ range_numbers n) in
     subst (λ xs. YieldsList steps (λ x. x) s xs) all (YieldsList-from_shown steps (λ x. x) shown (λ r t h. ap (λ m. length (range_with_len (range_inclusive_start r) m)) h.1.0) shown_next s)
 
-pub chosen_unset : {σ ks : List ℕ} {v : ℕ} → Chosen σ ks v → entry σ v ≡ 2
+chosen_unset : {σ ks : List ℕ} {v : ℕ} → Chosen σ ks v → entry σ v ≡ 2
 chosen_unset (this e) = e
 chosen_unset (next n c) = chosen_unset c
+
+pub choice_unset : (σ ks : List ℕ) (r : Option ℕ) → Chooses σ ks r → IfSome r (λ v. entry σ v ≡ 2)
+choice_unset σ ks None c = tt
+choice_unset σ ks (Some v) c = chosen_unset c
