@@ -59,9 +59,6 @@ impl<'a> Record for Table<'a> {
     }
 
     fn look(&self, k: usize) -> Option<Step> {
-        if k == 0 || self.used < k {
-            return None;
-        }
-        Some(self.places[k - 1])
+        self.places[..self.used].get(k.checked_sub(1)?).copied()
     }
 }
