@@ -1,4 +1,4 @@
-use Rattle.std.proofs.Common.{◌≡◌, length, ap, ◌∙◌, refl, arith, rules}
+use Rattle.std.proofs.Common.{◌≡◌, ◌+◌, ◌-◌, ◌*◌, length, ap, ◌∙◌, refl, arith, rules}
 use Rattle.records.specs.Line.{said}
 use Rattle.records.proofs.Putting.{put_into}
 use Rattle.records.proofs.Steps.{one_more}
