@@ -10,6 +10,7 @@ use model::{Decline, Step};
 // Holds its steps in given bytes, in lines of 28 bytes, as many as the bytes allow whole and 65,535 at most.
 #[derive(Drop)]
 pub struct Lines<'a> {
+    // lent memory with a count beside it, by a rule of the project
     bytes: &'a mut [u8],
     used: usize,
     ghost fits: { used ≤ most (length bytes.now / 28) },

@@ -8,6 +8,7 @@ use model::{Decline, Step};
 // Holds its steps in given places, the first 65,535 at most.
 #[derive(Drop)]
 pub struct Table<'a> {
+    // lent memory with a count beside it, by a rule of the project
     places: &'a mut [Step],
     used: usize,
     ghost fits: { used ≤ most (length places.now) },
