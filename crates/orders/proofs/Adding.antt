@@ -1,24 +1,12 @@
-use Rattle.std.proofs.Common.{◌≡◌, ℕ, zero, suc, ◌+◌, ◌<◌, ◌≤◌, true, false, cond, eqb, ltb, leb, ◌≢◌, List, [], ◌∷◌, ◌++◌, length, get_or, take, sym, refl, ap, ◌∙◌, ⊎_elim, eq-or-lt_of_le, arith, lt-ltb, eq-eqb, ne_eqb, le-leb}
+use Rattle.std.proofs.Common.{◌≡◌, ℕ, zero, suc, ◌+◌, ◌-◌, ◌<◌, ◌≤◌, true, false, cond, ◌||◌, eqb, ltb, leb, List, [], ◌∷◌, ◌++◌, length, get_or, take, sym, refl, ap, ◌∙◌, ⊎_elim, eq-or-lt_of_le, arith, lt-ltb, eq-eqb, ne_eqb, le-leb}
 use Rattle.std.proofs.lemmas.List.{take_more}
 use Rattle.std.proofs.lemmas.Bool.{cases_Bool}
+use Rattle.std.proofs.lemmas.List.Recursion.{or_push}
 use Rattle.model.specs.Settling.{OrderMeaning}
 use Rattle.orders.specs.Listed.{numbers, holds, wanted, listed, tally, by_preference}
 
-pub holds_push : (xs : List ℕ) (p k : ℕ) → holds (xs ++ (p ∷ [])) k ≡ cond (holds xs k) true (eqb p k)
-holds_push [] p k = elim (eqb p k) as (λ b. cond b true false ≡ b) [ true ↦ refl | false ↦ refl ]
-holds_push (x ∷ xs) p k = elim (eqb x k) as (λ b. cond b true (holds (xs ++ (p ∷ [])) k) ≡ cond (cond b true (holds xs k)) true (eqb p k)) [ true ↦ refl | false ↦ holds_push xs p k ]
-
--- a loop that looks for k
-
-pub not_yet : (xs : List ℕ) (i k : ℕ) → i < length xs → get_or xs i 0 ≢ k → holds (take i xs) k ≡ false → holds (take (i + 1) xs) k ≡ false
-not_yet xs i k h ne e =
-    let n : eqb (get_or xs i 0) k ≡ false = ne_eqb (get_or xs i 0) k ne in
-    rw (take_more xs i 0 h, holds_push (take i xs) (get_or xs i 0) k, e, n)
-
-pub holds_at : (xs : List ℕ) (i k : ℕ) → i < length xs → get_or xs i 0 ≡ k → holds xs k ≡ true
-holds_at [] i k h e = absurd (omega arith)
-holds_at (x ∷ xs) zero k h e = let q : eqb x k ≡ true = eq-eqb x k e in rw q
-holds_at (x ∷ xs) (suc i) k h e = elim (eqb x k) as (λ b. cond b true (holds xs k) ≡ true) [ true ↦ refl | false ↦ holds_at xs i k (omega arith) e ]
+pub holds_push : (xs : List ℕ) (p k : ℕ) → holds (xs ++ (p ∷ [])) k ≡ (holds xs k || eqb p k)
+holds_push xs p k = or_push (λ ys. holds ys k) (λ x. eqb x k) refl (λ x ys. refl) xs p
 
 -- the tally of a list that grows
 
@@ -31,7 +19,7 @@ tally_same zero xs p h = refl
 tally_same (suc n) xs p h =
     let i = tally_same n xs p (omega arith) in
     let q : eqb p (suc n) ≡ false = ne_eqb p (suc n) (λ e. omega arith) in
-    rw (holds_push xs p (suc n), q, i) (elim (holds xs (suc n)) as (λ b. tally n xs + cond (cond b true false) 1 0 ≡ tally n xs + cond b 1 0) [ true ↦ refl | false ↦ refl ])
+    rw (holds_push xs p (suc n), q, i) (elim (holds xs (suc n)) as (λ b. tally n xs + cond (b || false) 1 0 ≡ tally n xs + cond b 1 0) [ true ↦ refl | false ↦ refl ])
 
 pub tally_push : (n : ℕ) (xs : List ℕ) (p : ℕ) → 0 < p → p ≤ n → holds xs p ≡ false → tally n (xs ++ (p ∷ [])) ≡ tally n xs + 1
 tally_push zero xs p z h f = absurd (omega arith)
@@ -44,7 +32,7 @@ tally_push (suc n) xs p z h f = ⊎_elim
     (λ (l : p < suc n).
     let q : eqb p (suc n) ≡ false = ne_eqb p (suc n) (λ e. omega arith) in
     let i = tally_push n xs p z (omega arith) f in
-    rw (holds_push xs p (suc n), q, i) (elim (holds xs (suc n)) as (λ b. tally n xs + 1 + cond (cond b true false) 1 0 ≡ tally n xs + cond b 1 0 + 1) [ true ↦ omega arith | false ↦ omega arith ]))
+    rw (holds_push xs p (suc n), q, i) (elim (holds xs (suc n)) as (λ b. tally n xs + 1 + cond (b || false) 1 0 ≡ tally n xs + cond b 1 0 + 1) [ true ↦ omega arith | false ↦ omega arith ]))
     (eq-or-lt_of_le h)
 
 tally_most : (n : ℕ) (xs : List ℕ) → tally n xs ≤ n
@@ -71,8 +59,13 @@ pub listed_more : (n : ℕ) (xs ks : List ℕ) (i : ℕ) → i < length ks → l
 listed_more n xs ks i h = ap (listed n xs) (take_more ks i 0 h) ∙ listed_push n xs (take i ks) (get_or ks i 0)
 
 -- one turn: zs is ys with k added
-pub adds_more : (n m : ℕ) (xs ys zs ks : List ℕ) (i k : ℕ) → i < length ks → get_or ks i 0 ≡ k → m ≡ n → ys ≡ listed n xs (take i ks) → zs ≡ listed m ys (k ∷ []) → zs ≡ listed n xs (take (i + 1) ks)
-adds_more n m xs ys zs ks i k h e s y z = z ∙ (simp (s, y, ← e) (sym (listed_more n xs ks i h)))
+
+pub adds_more : (n m : ℕ) (xs ys zs ks : List ℕ) (i : ℕ) → i < length ks → m ≡ n → ys ≡ listed n xs (take i ks) → zs ≡ listed m ys (get_or ks i 0 ∷ []) → zs ≡ listed n xs (take (i + 1) ks)
+adds_more n m xs ys zs ks i h s y z = z ∙ simp (s, y) (sym (listed_more n xs ks i h))
+
+pub adds_number : (n m : ℕ) (xs ys zs : List ℕ) (k : ℕ) → 0 < k → m ≡ n → ys ≡ listed n xs (numbers (k - 1)) → zs ≡ listed m ys (k ∷ []) → zs ≡ listed n xs (numbers k)
+adds_number n m xs ys zs zero h s y z = absurd (omega arith)
+adds_number n m xs ys zs (suc k) h s y z = let e : suc k - 1 ≡ k = omega arith in z ∙ simp (s, y, e) (sym (listed_push n xs (numbers k) (suc k)))
 
 -- every number of 1 to n among those to be added is listed in the end
 

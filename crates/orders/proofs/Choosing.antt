@@ -1,52 +1,73 @@
-use Rattle.std.proofs.Common.{◌≡◌, ℕ, zero, suc, ◌+◌, ◌-◌, ◌<◌, ◌≤◌, true, false, eqb, ◌≢◌, ◌⊎◌, List, [], ◌∷◌, ◌++◌, length, get_or, take, sym, ◌∙◌, ⊎_elim, eq-or-lt_of_le, arith, ne_eqb, true-eqb, false-eqb}
-use Rattle.std.proofs.lemmas.List.{get_or_past, get_or_push, get_or_append_left, take_more, take_all}
-use Rattle.model.specs.Clauses.{Each}
+use Rattle.std.proofs.Common.{◌≡◌, ℕ, zero, suc, ◌+◌, ◌-◌, Bool, true, false, eqb, cond, ◌≢◌, List, [], ◌∷◌, ◌++◌, length, Option, IfSome, Some, None, sym, refl, ap, ◌∙◌, subst, arith, true-eqb, false-eqb}
+use Rattle.std.proofs.lemmas.Iterator.{YieldsList}
+use Rattle.std.proofs.lemmas.Iterator.Consumers.{YieldsList-from_shown}
+use Rattle.std.specs.declared.ops.RangeInclusive.{RangeInclusive}
+use Rattle.std.specs.List.{find, range_with_len}
+use Rattle.std.specs.Option.{option_map}
+use Rattle.std.specs.Range.{range_inclusive_start, range_inclusive_end, range_inclusive_exhausted, range_inclusive_len, range_inclusive_left, range_inclusive_steps}
 use Rattle.model.specs.Search.{entry, Chosen, this, next}
+use Rattle.model.specs.Settling.{Chooses}
 use Rattle.orders.specs.Listed.{numbers}
-use Rattle.orders.specs.Whole.{numbers_count}
 
-pub entry_at : (σ : List ℕ) (k : ℕ) → 0 < k → entry σ k ≡ get_or σ (k - 1) 0
-entry_at σ zero h = absurd (omega arith)
-entry_at σ (suc k) h = let e : suc k - 1 ≡ k = omega arith in rw e
+skips : (σ ks : List ℕ) (k : ℕ) (r : Option ℕ) → entry σ k ≢ 2 → Chooses σ ks r → Chooses σ (k ∷ ks) r
+skips σ ks k None n c = (n, c)
+skips σ ks k (Some v) n c = next n c
 
-pub entry_past : (σ : List ℕ) (k : ℕ) → length σ < k → entry σ k ≡ 0
-entry_past σ k h = let l : length σ ≤ k - 1 = omega arith in entry_at σ k (omega arith) ∙ get_or_past σ (k - 1) 0 l
+first_of : (σ ks : List ℕ) (k : ℕ) (r : Option ℕ) (b : Bool) → b ≡ eqb (entry σ k) 2 → Chooses σ ks r → Chooses σ (k ∷ ks) (cond b (Some k) r)
+first_of σ ks k r true e c = this (true-eqb (entry σ k) 2 e)
+first_of σ ks k r false e c = skips σ ks k r (false-eqb (entry σ k) 2 e) c
 
--- variables that have no place are set
-pub no_place : (σ : List ℕ) (k : ℕ) → (k ≡ 0) ⊎ ((k ≡ 0 → ⊥) × (length σ < k)) → false ≡ eqb (entry σ k) 2
-no_place σ k p = sym (ne_eqb (entry σ k) 2 (λ q. ⊎_elim
-    (λ (e : k ≡ 0). let z : entry σ k ≡ 0 = rw e in omega arith)
-    (λ h. let z = entry_past σ k h.1 in omega arith)
-    p))
+chooses_first : (σ ks : List ℕ) → Chooses σ ks (find (λ k. eqb (entry σ k) 2) ks)
+chooses_first σ [] = tt
+chooses_first σ (k ∷ ks) = first_of σ ks k (find (λ j. eqb (entry σ j) 2) ks) (eqb (entry σ k) 2) refl (chooses_first σ ks)
 
--- every variable of the list is set
-abbrev pub AllSet : List ℕ → List ℕ → Type 0
-AllSet σ ks = Each (λ k. entry σ k ≢ 2) ks
+-- a variable that is found is chosen, and if none is found, none is
+pub chooses_found : (σ ks : List ℕ) (r : Option ℕ) → option_map (λ x. x) r ≡ find (λ k. eqb (entry σ k) 2) ks → Chooses σ ks r
+chooses_found σ ks None e = rw (← e) at (chooses_first σ ks)
+chooses_found σ ks (Some v) e = rw (← e) at (chooses_first σ ks)
 
-all_set_push : (σ ks : List ℕ) (v : ℕ) → AllSet σ ks → entry σ v ≢ 2 → AllSet σ (ks ++ (v ∷ []))
-all_set_push σ [] v p q = (q, tt)
-all_set_push σ (k ∷ ks) v p q = (p.0, all_set_push σ ks v p.1 q)
+-- `1..=n` gives the numbers of 1 to n
 
--- the loop passes the variable v, which is set
-pub passes : (σ ks : List ℕ) (i v : ℕ) → i < length ks → get_or ks i 0 ≡ v → false ≡ eqb (entry σ v) 2 → AllSet σ (take i ks) → AllSet σ (take (i + 1) ks)
-passes σ ks i v h e q p = rw (take_more ks i 0 h, e) (all_set_push σ (take i ks) v p (false-eqb (entry σ v) 2 q))
+left : RangeInclusive ℕ → ℕ
+left s = range_inclusive_left (λ a b. b - a) s
 
--- the loop stops at the variable v, which is unset
-pub stops : (σ ks : List ℕ) (i v : ℕ) → i < length ks → get_or ks i 0 ≡ v → true ≡ eqb (entry σ v) 2 → AllSet σ (take i ks) → Chosen σ ks v
-stops σ [] i v h e q p = absurd (omega arith)
-stops σ (k ∷ ks) zero v h e q p = rw (sym e) (this {k = k} (rw e (true-eqb (entry σ v) 2 q)))
-stops σ (k ∷ ks) (suc i) v h e q p = next p.0 (stops σ ks i v (omega arith) e q p.1)
+steps : RangeInclusive ℕ → Option ℕ → RangeInclusive ℕ → Type 0
+steps s r t = range_inclusive_steps (λ a b. b - a) (λ a b. b ≡ a + 1) s r t
 
-pub passes_all : (σ ks : List ℕ) (i : ℕ) → length ks ≤ i → AllSet σ (take i ks) → AllSet σ ks
-passes_all σ ks i h p = rw (take_all i ks h) at p
+shown : RangeInclusive ℕ → List ℕ
+shown s = range_with_len (range_inclusive_start s) (left s)
 
-pub number_at : (n i : ℕ) → i < n → get_or (numbers n) i 0 ≡ i + 1
-number_at zero i h = absurd (omega arith)
-number_at (suc n) i h = ⊎_elim
-    (λ (e : suc i ≡ suc n). let f : length (numbers n) ≡ i = numbers_count n ∙ omega arith in get_or_push (numbers n) (suc n) 0 i f ∙ omega arith)
-    (λ (l : suc i < suc n). let f : i < length (numbers n) = rw numbers_count (omega arith) in get_or_append_left (numbers n) (suc n ∷ []) 0 i f ∙ number_at n i (omega arith))
-    (eq-or-lt_of_le h)
+range_end : (a n : ℕ) → range_with_len a (suc n) ≡ range_with_len a n ++ ((a + n) ∷ [])
+range_end a zero = let e : a + 0 ≡ a = omega arith in rw e
+range_end a (suc n) = let e : a + suc n ≡ a + 1 + n = omega arith in rw e (ap (λ xs. a ∷ xs) (range_end (a + 1) n))
 
-pub chosen_unset : {σ ks : List ℕ} {v : ℕ} → Chosen σ ks v → entry σ v ≡ 2
+range_numbers : (n : ℕ) → range_with_len 1 n ≡ numbers n
+range_numbers zero = refl
+range_numbers (suc n) = let e : 1 + n ≡ suc n = omega arith in range_end 1 n ∙ rw (range_numbers n, e)
+
+front : (b : Bool) (a c m : ℕ) → (b ≡ false → c ≡ a + 1) → (b ≡ true → m ≡ 0) → range_with_len a (m + 1) ≡ a ∷ range_with_len c m
+front true a c m f g = rw (g refl)
+front false a c m f g = let e : m + 1 ≡ suc m = omega arith in rw (e, f refl)
+
+shown_next : (s : RangeInclusive ℕ) (x : ℕ) (t : RangeInclusive ℕ) → steps s (Some x) t → shown s ≡ x ∷ shown t
+unfolding steps shown left
+shown_next s x t h =
+    let gone : range_inclusive_exhausted t ≡ true → left t ≡ 0 = λ z. ap (λ b. range_inclusive_len (λ a c. c - a) (range_inclusive_start t) (range_inclusive_end t) b) z in
+    ap (range_with_len (range_inclusive_start s)) (sym h.1.1)
+    ∙ (front (range_inclusive_exhausted t) (range_inclusive_start s) (range_inclusive_start t) (left t) h.1.2 gone ∙ ap (λ y. y ∷ shown t) (sym h.1.0))
+
+pub numbers_yielded : (s : RangeInclusive ℕ) (n : ℕ) → range_inclusive_start s ≡ 1 → range_inclusive_end s ≡ n → range_inclusive_exhausted s ≡ false
+    → YieldsList (range_inclusive_steps (λ a b. b - a) (λ a b. b ≡ a + 1)) (λ x. x) s (numbers n)
+unfolding steps shown left
+numbers_yielded s n a b e =
+    let l : left s ≡ n = ap (λ z. range_inclusive_len (λ x y. y - x) (range_inclusive_start s) (range_inclusive_end s) z) e ∙ omega arith in
+    let all : shown s ≡ numbers n = ap (λ k. range_with_len k (left s)) a ∙ (ap (range_with_len 1) l ∙ range_numbers n) in
+    subst (λ xs. YieldsList steps (λ x. x) s xs) all (YieldsList-from_shown steps (λ x. x) shown (λ r t h. ap (λ m. length (range_with_len (range_inclusive_start r) m)) h.1.0) shown_next s)
+
+chosen_unset : {σ ks : List ℕ} {v : ℕ} → Chosen σ ks v → entry σ v ≡ 2
 chosen_unset (this e) = e
 chosen_unset (next n c) = chosen_unset c
+
+pub choice_unset : (σ ks : List ℕ) (r : Option ℕ) → Chooses σ ks r → IfSome r (λ v. entry σ v ≡ 2)
+choice_unset σ ks None c = tt
+choice_unset σ ks (Some v) c = chosen_unset c

@@ -1,5 +1,6 @@
 -- The lists of the two kinds of order: by number, and by preference.
 use Rattle.std.specs.Prelude.{ℕ, zero, suc, ◌+◌, Bool, true, false, cond, List, [], ◌∷◌, ◌++◌, ◌==◌, nat_le, nat_lt}
+use Rattle.std.specs.List.{list_any}
 use Rattle.model.specs.Settling.{OrderMeaning}
 
 -- 1, 2, .., n
@@ -11,8 +12,7 @@ abbrev pub by_number : ℕ → OrderMeaning
 by_number n = record { size = n; list = numbers n }
 
 abbrev pub holds : List ℕ → ℕ → Bool
-holds [] k = false
-holds (x ∷ xs) k = cond (x == k) true (holds xs k)
+holds xs k = list_any (λ x. x == k) xs
 
 -- one of 1 to n, and not in the list yet
 abbrev pub wanted : ℕ → List ℕ → ℕ → Bool

@@ -1,7 +1,7 @@
 -- The lists of both kinds of order have each of 1 to n once.
-use Rattle.std.specs.Prelude.{◌≡◌, ℕ, zero, suc, ◌+◌, ◌<◌, ◌≤◌, true, false, List, [], ◌∷◌, ◌++◌, length, take, ◌==◌, nat_eq, refl}
+use Rattle.std.specs.Prelude.{◌≡◌, ℕ, zero, suc, ◌+◌, ◌<◌, ◌≤◌, true, false, List, [], ◌∷◌, ◌++◌, length, ◌==◌, nat_eq, refl}
 use Rattle.std.proofs.Common.{sym, ap, ◌∙◌, inl, inr, ⊎_elim, eq-or-lt_of_le, arith, eqb-true}
-use Rattle.std.proofs.lemmas.List.{length_push, length-take-le}
+use Rattle.std.proofs.lemmas.List.{length_push}
 use Rattle.std.proofs.lemmas.Bool.{false≢true, cases_Bool}
 use Rattle.model.specs.Clauses.{Member}
 use Rattle.model.specs.Settling.{Lists}
@@ -45,7 +45,5 @@ holds_member (x ∷ xs) k h = ⊎_elim
     (λ (e : nat_eq x k ≡ false). inr (holds_member xs k (rw e at h)))
     (cases_Bool (x == k))
 
-pub listing_lists : (size len : ℕ) (places : List ℕ) → len ≤ length places → tally size (take len places) ≡ len
-    → ((k : ℕ) → 0 < k → k ≤ size → holds (take len places) k ≡ true) → Lists (record { size = size; list = take len places })
-listing_lists size len places h t f =
-    (length-take-le len places h ∙ (sym t ∙ tally_all size (take len places) f), λ k p q. holds_member (take len places) k (f k p q))
+pub listing_lists : (size : ℕ) (xs : List ℕ) → tally size xs ≡ length xs → ((k : ℕ) → 0 < k → k ≤ size → holds xs k ≡ true) → Lists (record { size = size; list = xs })
+listing_lists size xs t f = (sym t ∙ tally_all size xs f, λ k p q. holds_member xs k (f k p q))

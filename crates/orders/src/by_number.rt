@@ -31,11 +31,6 @@ impl Order for ByNumber {
     }
 
     fn choose(&self, settings: &[u8]) -> Option<u8> {
-        for k in 0..self.n {
-            if is_unset(settings, k + 1) {
-                return Some(k + 1);
-            }
-        }
-        None
+        (1..=self.n).find(|k| is_unset(settings, *k))
     }
 }

@@ -28,18 +28,17 @@ impl ByPreference {
 impl Order for ByPreference {
     ghost meaning = { λ o. order_of o.listing };
 
-    ghost whole = { λ o. listing_lists o.listing.size o.listing.len o.listing.list o.listing.within o.listing.distinct o.whole };
+    ghost whole = { λ o. listing_lists o.listing.size (list_of o.listing) o.listing.distinct o.whole };
 
     fn size(&self) -> u8 {
         self.listing.size()
     }
 
     fn choose(&self, settings: &[u8]) -> Option<u8> {
-        for v in self.listing.as_slice() {
-            if is_unset(settings, *v) {
-                return Some(*v);
-            }
-        }
-        None
+        self.listing
+            .as_slice()
+            .iter()
+            .copied()
+            .find(|v| is_unset(settings, *v))
     }
 }

@@ -27,11 +27,10 @@ pub trait Order {
 fn is_unset(settings: &[u8], variable: u8) -> bool
     ensures { result ≡ (entry settings.now variable == 2) }
 {
-    let k = variable as usize;
-    if k == 0 || settings.len() < k {
-        return false;
-    }
-    settings[k - 1] == 2
+    usize::from(variable)
+        .checked_sub(1)
+        .and_then(|k| settings.get(k))
+        .is_some_and(|byte| *byte == 2)
 }
 
 #[cfg(test)]

@@ -1,5 +1,7 @@
-ghost use Rattle.std.specs.Prelude.{◌≡◌, ◌≤◌, length, take};
+ghost use Rattle.std.specs.Prelude.{◌≡◌, ◌≤◌, length};
 ghost use Rattle.orders.specs.Listed.{tally};
+
+use arrayvec::ArrayVec;
 
 mod adding;
 
@@ -7,9 +9,7 @@ mod adding;
 #[derive(Drop)]
 pub struct Listing {
     size: u8,
-    list: [u8; 200],
-    len: usize,
+    list: ArrayVec<u8, 200>,
     ghost small: { size ≤ 200 },
-    ghost within: { len ≤ length list },
-    ghost distinct: { tally size (take len list) ≡ len },
+    ghost distinct: { tally size list.items ≡ length list.items },
 }

@@ -1,6 +1,7 @@
-use Rattle.std.proofs.Common.{◌≡◌, ℕ, zero, suc, ◌+◌, ◌-◌, ◌*◌, ◌/◌, ◌%◌, ◌^◌, ◌<◌, List, [], ◌∷◌, ◌++◌, length, get_or, take, drop, set, sym, refl, ap, ◌∙◌, pow-suc, arith}
+use Rattle.std.proofs.Common.{◌≡◌, ℕ, zero, suc, ◌+◌, ◌-◌, ◌*◌, ◌/◌, ◌%◌, ◌^◌, ◌<◌, List, [], ◌∷◌, ◌++◌, length, drop, set, sym, refl, ap, ◌∙◌, pow-suc, arith}
 use native.Mathlib.Nat.{add-mul-mod_self_left}
-use Rattle.std.proofs.lemmas.List.{append_assoc, drop-set, length_push, take_more}
+use Rattle.std.specs.List.{fold}
+use Rattle.std.proofs.lemmas.List.{append_assoc, drop-set, length_push}
 use Rattle.records.specs.Line.{digits, number}
 
 pub digits_push : (k n : ℕ) → digits (k + 1) n ≡ digits k (n / 10) ++ ((48 + n % 10) ∷ [])
@@ -39,8 +40,21 @@ carried m d =
     let e : 10 * m + d ≡ 10 * (m % 4294967296) + d + 4294967296 * (10 * (m / 4294967296)) = omega arith in
     sym (ap (λ x. x % 4294967296) e ∙ add-mul-mod_self_left (10 * (m % 4294967296) + d) 4294967296 (10 * (m / 4294967296)))
 
--- one turn of reading, in 32 bits
-pub digit_read : (i n : ℕ) (bs : List ℕ) → i < length bs → n ≡ number 0 (take i bs) % 4294967296 → (10 * n + (get_or bs i 0 - 48)) % 4294967296 ≡ number 0 (take (i + 1) bs) % 4294967296
-digit_read i n bs h e =
-    let t : number 0 (take (i + 1) bs) ≡ 10 * number 0 (take i bs) + (get_or bs i 0 - 48) = ap (number 0) (take_more bs i 0 h) ∙ number_push 0 (take i bs) (get_or bs i 0) in
-    rw (t, e) (carried (number 0 (take i bs)) (get_or bs i 0 - 48))
+step : ℕ → ℕ → ℕ
+step n b = (n * 10 % 4294967296 + (b - 48)) % 4294967296
+
+one_read : (n b : ℕ) → step (n % 4294967296) b ≡ (10 * n + (b - 48)) % 4294967296
+unfolding step
+one_read n b =
+    let m : (n % 4294967296 * 10 % 4294967296 + (b - 48)) % 4294967296 ≡ (10 * (n % 4294967296) + (b - 48)) % 4294967296 = omega arith in
+    m ∙ carried n (b - 48)
+
+digits_fold : (n : ℕ) (bs : List ℕ) → fold step (n % 4294967296) bs ≡ number n bs % 4294967296
+unfolding number step
+digits_fold n [] = refl
+digits_fold n (b ∷ bs) = ap (λ m. fold step m bs) (one_read n b) ∙ digits_fold (10 * n + (b - 48)) bs
+
+-- reading in 32 bits
+pub digits_read : (bs : List ℕ) → fold (λ n b. (n * 10 % 4294967296 + (b - 48)) % 4294967296) 0 bs ≡ number 0 bs % 4294967296
+unfolding step
+digits_read bs = digits_fold 0 bs

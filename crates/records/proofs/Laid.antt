@@ -1,6 +1,6 @@
 use Rattle.std.proofs.Common.{◌≡◌, ℕ, suc, ◌%◌, ◌<◌, ◌≤◌, List, [], ◌∷◌, ◌++◌, length, take, drop, set, replicate, sym, refl, ap, ◌∙◌, arith}
 use borrow.Rule.Slice.PartMut.{put_mid}
-use Rattle.std.proofs.lemmas.List.{append_assoc, append-nil, length-append, take_at, drop_at, drop_all, set_at, take_all, length-drop, length-take-le}
+use Rattle.std.proofs.lemmas.List.{append_assoc, append-nil, length-append, take_at, drop_at, set_at, take_all, take-take, length-drop, length-take-le}
 use Rattle.model.specs.declared.Reference.{Reference}
 use Rattle.model.specs.declared.Reference.TheVariants.{R, S}
 use Rattle.model.specs.declared.Step.{Step}
@@ -12,13 +12,8 @@ put_after : (p q ys : List ℕ) (a k : ℕ) → length p ≡ a → put_mid a k (
 put_after p q ys a k e = ap (λ x. x ++ (ys ++ drop k (drop a (p ++ q)))) (take_at p q a e) ∙ ap (λ x. p ++ (ys ++ drop k x)) (drop_at p q a e)
 
 -- a letter and 10 digits fill 11 places
-pub letter_laid : (b n : ℕ) (bs ys : List ℕ) → length bs ≡ 11 → ys ≡ digits (length (take 10 (drop 1 (set bs 0 b)))) n → put_mid 1 10 (set bs 0 b) ys ≡ b ∷ digits 10 n
-letter_laid b n [] ys h e = absurd (omega arith)
-letter_laid b n (x ∷ bs) ys h e =
-    let l : length bs ≡ 10 = omega arith in
-    let le : length bs ≤ 10 = omega arith in
-    let w : ys ≡ digits 10 n = e ∙ (ap (λ z. digits (length z) n) (take_all 10 bs le) ∙ ap (λ k. digits k n) l) in
-    ap (λ z. b ∷ (ys ++ z)) (drop_all 10 bs le) ∙ ap (λ z. b ∷ z) (append-nil ys ∙ w)
+pub letter_laid : (b n : ℕ) (ys : List ℕ) → ys ≡ digits 10 n → b ∷ (ys ++ []) ≡ b ∷ digits 10 n
+letter_laid b n ys e = ap (λ z. b ∷ z) (append-nil ys ∙ e)
 
 digits_read : (n : ℕ) → n < 4294967296 → number 0 (take 10 (digits 10 n)) % 4294967296 ≡ n
 digits_read n h =
@@ -128,3 +123,9 @@ line_said s w u d p l r h =
     let v : number 0 d % 256 ≡ s.variable = omega arith in
     ap said (parts_laid w u d (left_count p) (right_count p) (digits_counted p))
     ∙ (parts_said w u d (left_count p) (right_count p) (digits_counted p) ∙ simp (l, r, v))
+
+-- the byte after a reference says nothing
+pub named_front : (bs : List ℕ) → named (take 12 bs) ≡ named (take 11 bs)
+unfolding named
+named_front [] = refl
+named_front (b ∷ bs) = let e = take-take 10 11 bs (omega arith) in let f = take-take 10 10 bs (omega arith) in rw (e, f)

@@ -1,6 +1,10 @@
-use Rattle.std.proofs.Common.{◌≡◌, ℕ, zero, suc, ◌+◌, ◌*◌, ◌<◌, ◌≤◌, List, [], ◌∷◌, ◌++◌, length, get_or, take, drop, set, Some, sym, refl, ap, ◌∙◌, ⊎_elim, eq-or-lt_of_le, arith}
+use Rattle.std.proofs.Common.{◌≡◌, ℕ, zero, suc, ◌+◌, ◌*◌, ◌<◌, ◌≤◌, List, [], ◌∷◌, ◌++◌, map, length, take, drop, Some, sym, refl, ap, ◌∙◌, ⊎_elim, eq-or-lt_of_le, arith}
+use borrow.Rule.Slice.PartMut.{put_mid}
 use Rattle.std.specs.List.{slice_get}
-use Rattle.std.proofs.lemmas.List.{length_push, length-take-le, take_at, drop_at, take_all, drop-take, take-take, append_assoc, take_more, take_more_set, take-append-drop, flat_map_more}
+use Rattle.std.specs.Simd.{first_chunks}
+use Rattle.std.proofs.lemmas.Option.{slice_get_within, get_or_from_slice_get}
+use Rattle.std.proofs.lemmas.Slice.{take-put_mid, take-put_mid_below, drop-put_mid}
+use Rattle.std.proofs.lemmas.List.{length_push, length-append, length-drop, length-take-le, drop_at, drop-drop, drop-take, take-take, map-append, take_more, take-append-drop, flat_map_more}
 use Rattle.model.specs.declared.Step.{Step}
 use Rattle.records.specs.Kept.{Beyond}
 use Rattle.records.specs.Line.{line, lines, said, steps_in}
@@ -50,17 +54,21 @@ nth_step (suc n) k bs h = ⊎_elim
     (λ (l : suc k < suc n). let z = steps_count n bs in nth_left (steps_in n bs) (said (take 28 (drop (n * 28) bs))) k (omega arith) ∙ nth_step n k bs (omega arith))
     (eq-or-lt_of_le h)
 
--- one turn of the copy of a line
-pub copied_more : (at i : ℕ) (bs es text : List ℕ) → at + i < length bs → i < length text → take (at + i) bs ≡ take at es ++ take i text → take (at + (i + 1)) (set bs (at + i) (get_or text i 0)) ≡ take at es ++ take (i + 1) text
-copied_more at i bs es text h k e =
-    let a : at + (i + 1) ≡ (at + i) + 1 = omega arith in
-    rw a (take_more_set bs (at + i) (get_or text i 0) h ∙ (ap (λ x. x ++ (get_or text i 0 ∷ [])) e ∙ (append_assoc (take at es) (take i text) (get_or text i 0 ∷ []) ∙ ap (λ x. take at es ++ x) (sym (take_more text i 0 k)))))
+-- the lines that the bytes hold, one by one
+lines_at : (n k : ℕ) (bs : List ℕ) → k < n → slice_get (first_chunks 28 n bs) k ≡ Some (take 28 (drop (k * 28) bs))
+lines_at zero k bs h = absurd (omega arith)
+lines_at (suc n) zero bs h = refl
+lines_at (suc n) (suc k) bs h = let e : suc k * 28 ≡ 28 + k * 28 = omega arith in rw e (lines_at n k (drop 28 bs) (omega arith) ∙ ap (λ x. Some (take 28 x)) (drop-drop (k * 28) 28 bs))
 
--- so far the copy has left the bytes before it
-pub copied_front : (at i : ℕ) (bs es text : List ℕ) → at ≤ length es → take (at + i) bs ≡ take at es ++ take i text → take at bs ≡ take at es
-copied_front at i bs es text h e =
-    let below : at ≤ at + i = omega arith in
-    sym (take-take at (at + i) bs below) ∙ (ap (take at) e ∙ take_at (take at es) (take i text) at (length-take-le at es h))
+pub steps_lines : (n m : ℕ) (bs : List ℕ) → n ≤ m → map said (take n (first_chunks 28 m bs)) ≡ steps_in n bs
+unfolding steps_in
+steps_lines zero m bs h = refl
+steps_lines (suc n) m bs h =
+    let cs : List (List ℕ) = first_chunks 28 m bs in
+    let l : slice_get cs n ≡ Some (take 28 (drop (n * 28) bs)) = lines_at m n bs (omega arith) in
+    let e : suc n ≡ n + 1 = omega arith in
+    ap (λ k. map said (take k cs)) e ∙ (ap (map said) (take_more cs n [] (slice_get_within cs n _ l) ∙ ap (λ x. take n cs ++ (x ∷ [])) (get_or_from_slice_get cs n _ [] l))
+    ∙ (map-append said (take n cs) (take 28 (drop (n * 28) bs) ∷ []) ∙ ap (λ x. x ++ (said (take 28 (drop (n * 28) bs)) ∷ [])) (steps_lines n m bs (omega arith))))
 
 -- the bytes used are the lines of the steps that they say
 abbrev pub Exact : ℕ → List ℕ → Type 0
@@ -73,22 +81,29 @@ pub exact_none : (bs : List ℕ) → Exact 0 bs
 unfolding steps_in
 exact_none bs = refl
 
--- a line more holds a step more
-pub stored : (n : ℕ) (bs es text : List ℕ) (s : Step) → length text ≡ 28 → n * 28 ≤ length es → take (n * 28 + 28) bs ≡ take (n * 28) es ++ take 28 text → said text ≡ s → steps_in (n + 1) bs ≡ steps_in n es ++ (s ∷ [])
-stored n bs es text s lt le e st =
-    let long : length text ≤ 28 = omega arith in
-    let fl : length (take (n * 28) es) ≡ n * 28 = length-take-le (n * 28) es le in
-    let front : take (n * 28) bs ≡ take (n * 28) es = copied_front (n * 28) 28 bs es text le e in
-    let back : take 28 (drop (n * 28) bs) ≡ text = sym (drop-take (n * 28) 28 bs) ∙ (ap (drop (n * 28)) e ∙ (drop_at (take (n * 28) es) (take 28 text) (n * 28) fl ∙ take_all 28 text long)) in
-    steps_more n bs ∙ (ap (λ x. x ++ (said (take 28 (drop (n * 28) bs)) ∷ [])) (steps_same n bs es front) ∙ ap (λ y. steps_in n es ++ (y ∷ [])) (ap said back ∙ st))
+-- what a line more leaves
+pub record OneMore (n : ℕ) (es bs : List ℕ) (s : Step) : Type 0 where
+  pub beyond : Beyond (n * 28) es ((n + 1) * 28) bs
+  pub held : steps_in (n + 1) bs ≡ steps_in n es ++ (s ∷ [])
+  pub exact : Exact n es → Exact (n + 1) bs
 
-pub exact_more : (n : ℕ) (bs es text : List ℕ) (s : Step) → length text ≡ 28 → n * 28 ≤ length es → take (n * 28 + 28) bs ≡ take (n * 28) es ++ take 28 text → said text ≡ s → text ≡ line s → Exact n es → Exact (n + 1) bs
-exact_more n bs es text s lt le e st tl x =
-    let m : (n + 1) * 28 ≡ n * 28 + 28 = omega arith in
-    let long : length text ≤ 28 = omega arith in
-    let w : take 28 text ≡ line s = take_all 28 text long ∙ tl in
-    rw m (e ∙ (ap (λ y. y ++ take 28 text) x ∙ (ap (λ y. lines (steps_in n es) ++ y) w
-    ∙ (flat_map_more line [] (steps_in n es) s ∙ ap lines (sym (stored n bs es text s lt le e st))))))
+pub one_more : (n k : ℕ) (es text : List ℕ) (s : Step) → k ≡ 28 → n * 28 + 28 ≤ length es → length text ≡ 28 → text ≡ line s → said text ≡ s
+    → OneMore n es (put_mid (n * 28) k es text) s
+one_more n k es text s e le tl is st =
+    let at : n * 28 ≤ length es = omega arith in
+    let end : (n + 1) * 28 ≡ n * 28 + 28 = omega arith in
+    let bs : List ℕ = put_mid (n * 28) k es text in
+    let t : take (n * 28 + 28) bs ≡ take (n * 28) es ++ text = take-put_mid (n * 28) k es text (n * 28 + 28) (omega arith) at in
+    let d : drop (n * 28 + 28) bs ≡ drop (n * 28 + 28) es = drop-put_mid (n * 28) k es text (n * 28 + 28) (omega arith) at (omega arith) in
+    let front : take (n * 28) bs ≡ take (n * 28) es = take-put_mid_below (n * 28) k es text (n * 28) (omega arith) at in
+    let back : take 28 (drop (n * 28) bs) ≡ text = sym (drop-take (n * 28) 28 bs) ∙ (ap (drop (n * 28)) t ∙ drop_at (take (n * 28) es) text (n * 28) (length-take-le (n * 28) es at)) in
+    let held : steps_in (n + 1) bs ≡ steps_in n es ++ (s ∷ []) =
+    steps_more n bs ∙ (ap (λ x. x ++ (said (take 28 (drop (n * 28) bs)) ∷ [])) (steps_same n bs es front) ∙ ap (λ y. steps_in n es ++ (y ∷ [])) (ap said back ∙ st)) in
+    record {
+      beyond = record { grows = omega arith; long = omega (arith, length-append (take (n * 28) es) (text ++ drop k (drop (n * 28) es)), length-append text (drop k (drop (n * 28) es)), length-drop k (drop (n * 28) es), length-drop (n * 28) es, length-take-le (n * 28) es at); rest = rw end d };
+      held = held;
+      exact = λ x. rw end (t ∙ (ap (λ y. y ++ text) x ∙ (ap (λ y. lines (steps_in n es) ++ y) is ∙ (flat_map_more line [] (steps_in n es) s ∙ ap lines (sym held)))));
+    }
 
 -- what the lent bytes hold after a record that was made over them: the lines of its steps, and beyond these what was there
 pub lent_bytes : (n i : ℕ) (es bs : List ℕ) (ss : List Step) → Exact n bs → Beyond i es (n * 28) bs → steps_in n bs ≡ ss → bs ≡ lines ss ++ drop (length ss * 28) es

@@ -9,27 +9,24 @@ fn write_number(places: &mut [u8], n: u32)
     ensures { places.new ≡ digits (length places.old) n }
 {
     let mut rest = n;
+    // by index: of what a loop over iter_mut().rev() writes, a proof knows the length and nothing else
     for i in (0..places.len()).rev() {
         places[i] = b'0' + (rest % 10) as u8;
         rest /= 10;
     }
 }
 
-fn write_reference(places: &mut [u8], reference: Reference)
-    requires { length places.old ≡ 11 }
-    ensures written { places.new ≡ word reference }
-    ensures read_back { named places.new ≡ reference }
+fn write_reference(reference: Reference) -> [u8; 11]
+    ensures written { result ≡ word reference }
+    ensures read_back { named result ≡ reference }
 {
-    match reference {
-        Reference::R(n) => {
-            places[0] = b'R';
-            write_number(&mut places[1..11], n);
-        }
-        Reference::S(n) => {
-            places[0] = b'S';
-            write_number(&mut places[1..11], n);
-        }
-    }
+    let (letter, n) = match reference {
+        Reference::R(n) => (b'R', n),
+        Reference::S(n) => (b'S', n),
+    };
+    let mut bytes = [letter; 11];
+    write_number(&mut bytes[1..], n);
+    bytes
 }
 
 pub(crate) fn write(step: Step) -> [u8; 28]
@@ -37,9 +34,9 @@ pub(crate) fn write(step: Step) -> [u8; 28]
     ensures read_back { said result ≡ step }
 {
     let mut bytes = [b' '; 28];
-    write_reference(&mut bytes[0..11], step.left);
-    write_reference(&mut bytes[12..23], step.right);
-    write_number(&mut bytes[24..27], step.variable as u32);
+    bytes[..11].copy_from_slice(&write_reference(step.left));
+    bytes[12..23].copy_from_slice(&write_reference(step.right));
+    write_number(&mut bytes[24..27], u32::from(step.variable));
     bytes[27] = b'\n';
     bytes
 }
@@ -48,17 +45,14 @@ pub(crate) fn write(step: Step) -> [u8; 28]
 fn read_number(bytes: &[u8]) -> u32
     ensures { result ≡ number 0 bytes.now % 4294967296 }
 {
-    let mut n: u32 = 0;
-    for b in bytes {
-        n = n
-            .wrapping_mul(10)
-            .wrapping_add(u32::from(b.saturating_sub(b'0')));
-    }
-    n
+    bytes.iter().fold(0, |n: u32, byte| {
+        n.wrapping_mul(10)
+            .wrapping_add(u32::from(byte.saturating_sub(b'0')))
+    })
 }
 
-fn read_reference(bytes: &[u8]) -> Reference
-    requires { length bytes.now ≡ 11 }
+// A reference, and the byte after it.
+fn read_reference(bytes: &[u8; 12]) -> Reference
     ensures { result ≡ named bytes.now }
 {
     let n = read_number(&bytes[1..11]);
@@ -69,14 +63,14 @@ fn read_reference(bytes: &[u8]) -> Reference
     }
 }
 
-pub(crate) fn read(bytes: &[u8]) -> Step
-    requires { length bytes.now ≡ 28 }
+pub(crate) fn read(bytes: &[u8; 28]) -> Step
     ensures { result ≡ said bytes.now }
 {
-    let variable = read_number(&bytes[24..27]);
+    let (references, rest) = bytes.as_chunks::<12>();
+    let variable = read_number(&rest[..3]);
     Step {
-        left: read_reference(&bytes[0..11]),
-        right: read_reference(&bytes[12..23]),
+        left: read_reference(&references[0]),
+        right: read_reference(&references[1]),
         variable: (variable % 256) as u8,
     }
 }

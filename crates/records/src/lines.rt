@@ -10,6 +10,7 @@ use model::{Decline, Step};
 // Holds its steps in given bytes, in lines of 28 bytes, as many as the bytes allow whole and 65,535 at most.
 #[derive(Drop)]
 pub struct Lines<'a> {
+    // lent memory with a count beside it, by a rule of the project
     bytes: &'a mut [u8],
     used: usize,
     ghost fits: { used ≤ most (length bytes.now / 28) },
@@ -56,10 +57,7 @@ impl<'a> Record for Lines<'a> {
             return Err(Decline::RecordFull);
         }
         let at = self.used * 28;
-        let text = line::write(step);
-        for i in 0..28 {
-            self.bytes[at + i] = text[i];
-        }
+        self.bytes[at..at + 28].copy_from_slice(&line::write(step));
         self.used += 1;
         Ok(())
     }
@@ -73,10 +71,7 @@ impl<'a> Record for Lines<'a> {
     }
 
     fn look(&self, k: usize) -> Option<Step> {
-        if k == 0 || self.used < k {
-            return None;
-        }
-        let at = (k - 1) * 28;
-        Some(line::read(&self.bytes[at..at + 28]))
+        let (lines, _) = self.bytes.as_chunks();
+        lines[..self.used].get(k.checked_sub(1)?).map(line::read)
     }
 }

@@ -8,6 +8,7 @@ use model::{Decline, Step};
 // Holds its steps in given places, the first 65,535 at most.
 #[derive(Drop)]
 pub struct Table<'a> {
+    // lent memory with a count beside it, by a rule of the project
     places: &'a mut [Step],
     used: usize,
     ghost fits: { used ≤ most (length places.now) },
@@ -59,9 +60,6 @@ impl<'a> Record for Table<'a> {
     }
 
     fn look(&self, k: usize) -> Option<Step> {
-        if k == 0 || self.used < k {
-            return None;
-        }
-        Some(self.places[k - 1])
+        self.places[..self.used].get(k.checked_sub(1)?).copied()
     }
 }

@@ -1,33 +1,31 @@
--- One byte more in a count and in a buffer.
-use Rattle.std.proofs.Common.{◌≡◌, ℕ, zero, suc, ◌+◌, ◌-◌, ◌^◌, ◌<◌, ◌≤◌, min, List, [], ◌∷◌, ◌++◌, length, take, drop, set, sym, refl, ap, ◌∙◌, ap₂, arith}
-use Rattle.std.proofs.lemmas.List.{length-drop, length_push, take_all, take-append-drop, take-append-le, take_more_set, drop_all, drop-drop, drop-set-lt}
+-- More bytes in a count and in a buffer.
+use Rattle.std.proofs.Common.{◌≡◌, ℕ, zero, suc, ◌+◌, ◌-◌, ◌^◌, ◌≤◌, min, List, [], ◌∷◌, ◌++◌, length, take, drop, sym, refl, ap, ◌∙◌, ap₂, arith, length-append}
+use borrow.Rule.Slice.PartMut.{put_mid}
+use Rattle.std.proofs.lemmas.List.{length-drop, length-take, take_all, take-append-drop, drop-drop, take_min, drop_min}
+use Rattle.std.proofs.lemmas.Slice.{take-put_mid, drop-put_mid}
 use Rattle.writing.specs.Sinks.{count, Filled, written}
 
-pub count_more : (x : List ℕ) (b n : ℕ) → n ≡ count x → min (n + 1) (2 ^ 64 - 1) ≡ count (x ++ (b ∷ []))
-count_more x b n e = omega (arith, length_push x b)
+pub count_more : (x y : List ℕ) (n : ℕ) → n ≡ count x → min (n + length y) (2 ^ 64 - 1) ≡ count (x ++ y)
+count_more x y n e = omega (arith, length-append x y)
 
-module _ (before x bytes : List ℕ) (at : ℕ) (f : Filled before x bytes at) (b : ℕ) where
-  -- as many places are left as the bytes leave of the buffer
-  left : length bytes - at ≡ length before - length x
-  left = sym (length-drop at bytes) ∙ (ap length f.rest ∙ length-drop (length x) before)
+take_both : (n : ℕ) (xs ys : List ℕ) → take n xs ++ take (n - length xs) ys ≡ take n (xs ++ ys)
+take_both zero xs ys = let e : 0 - length xs ≡ 0 = omega arith in rw e
+take_both (suc n) [] ys = let e : suc n - 0 ≡ suc n = omega arith in rw e
+take_both (suc n) (x ∷ xs) ys = let e : suc n - suc (length xs) ≡ n - length xs = omega arith in rw e (ap (λ zs. x ∷ zs) (take_both n xs ys))
 
-  pub filled_more : at < length bytes → Filled before (x ++ (b ∷ [])) (set bytes at b) (at + 1)
-  filled_more h =
-      let some : length x < length before = omega (arith, left) in
-      let one = length_push x b in
-      record {
-        front = take_more_set bytes at b h ∙ (ap (λ w. w ++ (b ∷ [])) (f.front ∙ take_all (length before) x (omega arith)) ∙ sym (take_all (length before) (x ++ (b ∷ [])) (omega arith)));
-        rest = drop-set-lt (at + 1) bytes at b (omega arith) ∙ (sym (drop-drop 1 at bytes) ∙ (ap (drop 1) f.rest ∙ (drop-drop 1 (length x) before ∙ ap (λ k. drop k before) (sym one))));
-      }
-
-  pub filled_over : length bytes ≤ at → Filled before (x ++ (b ∷ [])) bytes at
-  filled_over h =
-      let full : length before ≤ length x = omega (arith, left) in
-      let one = length_push x b in
-      record {
-        front = f.front ∙ sym (take-append-le (length before) x (b ∷ []) full);
-        rest = drop_all at bytes h ∙ sym (drop_all (length (x ++ (b ∷ []))) before (omega arith));
-      }
+pub filled_more : (before x bytes : List ℕ) (at : ℕ) → Filled before x bytes at → at ≤ length bytes → (y ys : List ℕ) (k end : ℕ)
+    → end ≡ at + k → k ≡ min (length bytes - at) (length y) → ys ≡ take k y → Filled before (x ++ y) (put_mid at k bytes ys) end
+filled_more before x bytes at f w y ys k end e m t =
+    let zs : List ℕ = drop (length x) before in
+    let room : length bytes - at ≡ length before - length x = sym (length-drop at bytes) ∙ (ap length f.rest ∙ length-drop (length x) before) in
+    let n : length ys ≡ k = ap length t ∙ (length-take k y ∙ omega arith) in
+    let put : ys ≡ take (length before - length x) y = t ∙ (ap (λ j. take j y) m ∙ (take_min (length bytes - at) y ∙ ap (λ j. take j y) room)) in
+    let past : k ≡ min (length y) (length zs) = omega (arith, length-drop (length x) before) in
+    record {
+      front = take-put_mid at k bytes ys end (omega arith) w ∙ (ap₂ ◌++◌ f.front put ∙ take_both (length before) x y);
+      rest = drop-put_mid at k bytes ys end (omega arith) w n ∙ (ap (λ j. drop j bytes) e ∙ (sym (drop-drop k at bytes) ∙ (ap (drop k) f.rest
+      ∙ (ap (λ j. drop j zs) past ∙ (drop_min (length y) zs ∙ (drop-drop (length y) (length x) before ∙ ap (λ j. drop j before) (sym (length-append x y))))))));
+    }
 
 pub filled_none : (bytes : List ℕ) (at : ℕ) → at ≡ 0 → Filled bytes [] bytes at
 filled_none bytes at e = rw e (record { front = sym (none (length bytes)); rest = refl })

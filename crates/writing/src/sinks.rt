@@ -1,5 +1,5 @@
 // Where the bytes of a text go: into a buffer, or only into a count.
-ghost use Rattle.std.specs.Prelude.{◌≡◌, ℕ, List, [], ◌∷◌};
+ghost use Rattle.std.specs.Prelude.{◌≡◌, ◌≤◌, ℕ, List, [], length};
 ghost use Rattle.writing.specs.Sinks.{Puts, count, Filled};
 
 // Takes bytes, one after the other.
@@ -7,8 +7,8 @@ pub(crate) trait Sink {
     // from the first value on, these bytes were taken
     ghost took: { Self → List ℕ → Self → Type 0 };
 
-    fn put(&mut self, byte: u8)
-        ensures { Puts took self.old (byte ∷ []) self.new };
+    fn put(&mut self, bytes: &[u8])
+        ensures { Puts took self.old bytes.now self.new };
 }
 
 // How many bytes there were, up to the largest number.
@@ -20,8 +20,8 @@ pub(crate) struct Length {
 impl Sink for Length {
     ghost took = { λ _ x b. b.bytes ≡ count x };
 
-    fn put(&mut self, _byte: u8) {
-        self.bytes = self.bytes.saturating_add(1);
+    fn put(&mut self, bytes: &[u8]) {
+        self.bytes = self.bytes.saturating_add(bytes.len());
     }
 }
 
@@ -30,6 +30,7 @@ impl Sink for Length {
 pub(crate) struct Front<'a> {
     buffer: &'a mut [u8],
     at: usize,
+    ghost within: { at ≤ length buffer.now },
 }
 
 impl<'a> Front<'a> {
@@ -45,10 +46,9 @@ impl<'a> Front<'a> {
 impl Sink for Front<'_> {
     ghost took = { λ a x b. (b.buffer.ghost_name ≡ a.buffer.ghost_name) × Filled a.buffer.now x b.buffer.now b.at };
 
-    fn put(&mut self, byte: u8) {
-        if self.at < self.buffer.len() {
-            self.buffer[self.at] = byte;
-            self.at += 1;
-        }
+    fn put(&mut self, bytes: &[u8]) {
+        let end = self.at + (self.buffer.len() - self.at).min(bytes.len());
+        self.buffer[self.at..end].copy_from_slice(&bytes[..end - self.at]);
+        self.at = end;
     }
 }

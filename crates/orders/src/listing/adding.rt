@@ -1,8 +1,9 @@
 ghost use Rattle.std.specs.Prelude.{◌≡◌, min, [], ◌∷◌};
-ghost use Rattle.orders.specs.Listed.{holds, listed, numbers};
+ghost use Rattle.orders.specs.Listed.{listed, numbers};
 ghost use Rattle.orders.specs.Listing.{list_of};
 
 use super::Listing;
+use arrayvec::ArrayVec;
 
 impl Listing {
     // No variable listed yet; a size above 200 is taken as 200.
@@ -12,8 +13,7 @@ impl Listing {
     {
         Listing {
             size: size.min(200) as u8,
-            list: [0; 200],
-            len: 0,
+            list: ArrayVec::new(),
         }
     }
 
@@ -26,18 +26,7 @@ impl Listing {
     pub fn as_slice(&self) -> &[u8]
         ensures { result.now ≡ list_of self.now }
     {
-        &self.list[0..self.len]
-    }
-
-    fn has(&self, variable: u8) -> bool
-        ensures { result ≡ holds (list_of self.now) variable }
-    {
-        for v in self.as_slice() {
-            if *v == variable {
-                return true;
-            }
-        }
-        false
+        &self.list
     }
 
     // Adds a number that is one of 1 to size and not listed yet; skips any other.
@@ -45,15 +34,12 @@ impl Listing {
         ensures sized { self.new.size ≡ self.old.size }
         ensures added { list_of self.new ≡ listed self.old.size (list_of self.old) (number ∷ []) }
     {
-        if number == 0 || number > self.size as u32 {
+        let Ok(variable) = u8::try_from(number) else {
             return;
+        };
+        if (1..=self.size).contains(&variable) && !self.list.contains(&variable) {
+            self.list.push(variable);
         }
-        let variable = number as u8;
-        if self.has(variable) {
-            return;
-        }
-        self.list[self.len] = variable;
-        self.len += 1;
     }
 
     // Adds the preferences in turn.
@@ -71,8 +57,8 @@ impl Listing {
         ensures sized { self.new.size ≡ self.old.size }
         ensures added { list_of self.new ≡ listed self.old.size (list_of self.old) (numbers self.old.size) }
     {
-        for k in 0..self.size as u32 {
-            self.add(k + 1);
+        for k in 1..=u32::from(self.size) {
+            self.add(k);
         }
     }
 }

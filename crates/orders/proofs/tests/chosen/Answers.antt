@@ -1,5 +1,5 @@
-use Rattle.orders.proofs.Choosing.{chosen_unset}
+use Rattle.orders.proofs.Choosing.{choice_unset}
 use Rattle.orders.proofs.tests.chosen.Goals as goal
 
-pub returns-in-Some : goal.returns-in-Some
-returns-in-Some g c h = chosen_unset c.in-Some.ensures
+pub returns : goal.returns
+returns g c = choice_unset c.args.settings.now _ c.choose.result c.choose.ensures

@@ -1,18 +1,18 @@
-use Rattle.std.proofs.Common.{sym, ap, ◌∙◌, arith}
-use Rattle.records.specs.Line.{word, named}
+use Rattle.std.proofs.Common.{◌∷◌, sym, ap, ◌∙◌, arith}
+use Rattle.records.specs.Line.{digits, word, named}
 use Rattle.records.proofs.Laid.{letter_laid, named_R, named_S}
 use Rattle.records.proofs.line.write_reference.Goals as goal
+use Rattle.records.proofs.line.write_reference.Goals.{in-R, in-S}
 
-pub returns-in-R : goal.returns-in-R
+pub returns : goal.returns
 unfolding word
-returns-in-R c =
-    let n = c.in-R.n in
-    let e = letter_laid 82 n c.args.places.now c.write_number.new.places c.requires c.write_number.ensures in
-    record { written = e ∙ ap word (sym c.in-R.is); read_back = ap named e ∙ (named_R n (omega arith) ∙ sym c.in-R.is) }
-
-pub returns-in-S : goal.returns-in-S
-unfolding word
-returns-in-S c =
-    let n = c.in-S.n in
-    let e = letter_laid 83 n c.args.places.now c.write_number-in-S.new.places c.requires c.write_number-in-S.ensures in
-    record { written = e ∙ ap word (sym c.in-S.is); read_back = ap named e ∙ (named_S n (omega arith) ∙ sym c.in-S.is) }
+returns c =
+    let e = letter_laid c.match-reference.letter.0 c.match-reference.letter.1 c.write_number.new.places c.write_number.ensures in
+    elim c.match-reference.branch [
+      | in-R w ↦
+          let f = e ∙ ap (λ p. p.0 ∷ digits 10 p.1) w.letter-is in
+          record { written = f ∙ ap word (sym w.in-R.is); read_back = ap named f ∙ (named_R w.in-R.n (omega arith) ∙ sym w.in-R.is) }
+      | in-S w ↦
+          let f = e ∙ ap (λ p. p.0 ∷ digits 10 p.1) w.letter-is in
+          record { written = f ∙ ap word (sym w.in-S.is); read_back = ap named f ∙ (named_S w.in-S.n (omega arith) ∙ sym w.in-S.is) }
+    ]

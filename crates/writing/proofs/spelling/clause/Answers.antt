@@ -19,8 +19,8 @@ loop-t-preserved g c =
     let i = c.loop-t.t-index in
     let t = get_or ts i (pos 0) in
     let fit : SFits w32 t = search rules in
-    let p : Puts took c.loop-t.sink (signed_decimal t) c.literal.new.sink = simp to_z-of_z at c.literal.ensures in
-    let q = puts_both took c.loop-t.sink c.literal.new.sink c.put.new.self (signed_decimal t) (32 ∷ []) p c.put.ensures in
+    let p : Puts took c.loop-t.sink (signed_decimal t) c.number.new.sink = simp to_z-of_z at c.number.ensures in
+    let q = puts_both took c.loop-t.sink c.number.new.sink c.put.new.self (signed_decimal t) (32 ∷ []) p c.put.ensures in
     puts_same took _ _ _ _ (literals_more (take i ts) t ∙ ap literal_texts (sym (take_more ts i (pos 0) c.loop-t-test.true)))
     (puts_both took c.args.sink.now c.loop-t.sink c.put.new.self (literal_texts (take i ts)) (signed_decimal t ++ (32 ∷ [])) c.loop-t.invariant q)
 
@@ -30,5 +30,4 @@ returns g c =
     let ts = c.args.literals.now in
     let i = c.loop-t.t-index in
     let p = puts_same took _ _ _ _ (ap literal_texts (take_all i ts c.loop-t-test.false)) c.loop-t.invariant in
-    let q = puts_both took c.loop-t.sink c.put-2.new.self c.put-3.new.self (48 ∷ []) (10 ∷ []) c.put-2.ensures c.put-3.ensures in
-    puts_both took c.args.sink.now c.loop-t.sink c.put-3.new.self (literal_texts ts) (48 ∷ (10 ∷ [])) p q
+    puts_both took c.args.sink.now c.loop-t.sink c.put-2.new.self (literal_texts ts) (48 ∷ (10 ∷ [])) p c.put-2.ensures

@@ -1,4 +1,4 @@
-use Rattle.std.proofs.Common.{refl, ap, ◌∙◌}
+use Rattle.std.proofs.Common.{ap, ◌∙◌}
 use Rattle.std.proofs.lemmas.List.{take_all}
 use Rattle.orders.specs.Listed.{listed}
 use Rattle.orders.specs.Listing.{list_of}
@@ -11,7 +11,7 @@ loop-p-preserved c =
     let v = c.loop-p.invariant in
     let ks = c.args.preferences.now in
     let i = c.loop-p.p-index in
-    (c.add.ensures.sized ∙ v.0, adds_more t.size _ (list_of t) (list_of c.loop-p.self) (list_of c.add.new.self) ks i _ c.loop-p-test.true refl v.0 v.1 c.add.ensures.added)
+    (c.add.ensures.sized ∙ v.0, adds_more t.size _ (list_of t) (list_of c.loop-p.self) (list_of c.add.new.self) ks i c.loop-p-test.true v.0 v.1 c.add.ensures.added)
 
 pub returns : goal.returns
 returns c =

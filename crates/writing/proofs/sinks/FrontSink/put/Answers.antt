@@ -1,8 +1,8 @@
-use Rattle.writing.proofs.Filling.{filled_more, filled_over}
+use Rattle.std.proofs.Common.{◌+◌, arith}
+use Rattle.writing.proofs.Filling.{filled_more}
 use Rattle.writing.proofs.sinks.FrontSink.put.Goals as goal
 
-pub returns-then-self : goal.returns-then-self
-returns-then-self c a x h = (h.0, filled_more _ x _ _ h.1 c.args.byte c.if-self.true)
-
-pub returns-else-self : goal.returns-else-self
-returns-else-self c a x h = (h.0, filled_over _ x _ _ h.1 c.args.byte c.if-self.false)
+pub returns : goal.returns
+returns c a x h =
+    let t = c.args.self.now in
+    (h.0, filled_more a.buffer.now x t.buffer.now t.at h.1 t.within c.args.bytes.now c.copy_from_slice.new.self _ (t.at + c.min.result) (omega arith) (omega arith) c.copy_from_slice.ensures.after)
