@@ -1,5 +1,5 @@
 // Reading a rule text into a file, all of its clauses or none.
-ghost use Rattle.std.specs.Prelude.{◌≡◌, List, ℤ, if◌then◌else◌};
+ghost use Rattle.std.specs.Prelude.{◌≡◌, List, ℤ, unwrap_or};
 ghost use Rattle.model.specs.Reading.{Reads};
 ghost use Rattle.station.specs.Views.{machine};
 ghost use Rattle.station.specs.Hands.{Holds, Sound};
@@ -16,24 +16,22 @@ const NEVER_STARTED: FileFault = FileFault {
     decline: Decline::NotStarted,
 };
 
-// Puts the counts back as they were, unless the text was accepted.
+// Puts the counts back as they were saved, unless the text was accepted.
 struct Guard<'a> {
     counts: &'a mut Counts,
-    saved: Counts,
-    accepted: bool,
+    saved: Option<Counts>,
 }
 
 impl Drop for Guard<'_> {
     fn drop(self)
-        ensures { self.exit.0.now ≡ (if self.entry.accepted then self.entry.counts.now else self.entry.saved) }
+        ensures { self.exit.0.now ≡ unwrap_or self.entry.saved self.entry.counts.now }
     {
-        if !self.accepted {
-            *self.counts = self.saved;
+        if let Some(saved) = self.saved {
+            *self.counts = saved;
         }
         let Guard {
             counts: _,
             saved: _,
-            accepted: _,
         } = self;
     }
 }
@@ -81,12 +79,8 @@ fn read_into(
     if n == 0 {
         return Err(ReadFault::InFile(NEVER_STARTED));
     }
-    let saved = *counts;
-    let mut guard = Guard {
-        counts,
-        saved,
-        accepted: false,
-    };
+    let saved = Some(*counts);
+    let mut guard = Guard { counts, saved };
     let mut reader = Reader::over(text);
     let Some(declared) = reader.heading(n as u32)? else {
         return Err(ReadFault::InText(TextFault::Problem(text.len())));
@@ -103,7 +97,7 @@ fn read_into(
         }
     }
     ended(declared, done, &hand, text.len())?;
-    guard.accepted = true;
+    guard.saved = None;
     Ok(done)
 }
 

@@ -28,18 +28,18 @@ returns-in_default c =
 
 pub loop-t-init : goal.loop-t-init
 loop-t-init c =
-    (refl, refl, refl, heading_on c.args.n c.args.text.now c.args.lits.now c.args.ends.now c.args.counts.now c.if-n-eq0.false _ (rest_of c.heading.new.self) c.over-reader.ensures.all _ c.in_ok-declared.ensures.heads c.in-Some.declared c.in-Some.is c.requires c.empty-hand.result (c.empty-hand.ensures c.args.n))
+    (refl, refl, heading_on c.args.n c.args.text.now c.args.lits.now c.args.ends.now c.args.counts.now c.if-n-eq0.false _ (rest_of c.heading.new.self) c.over-reader.ensures.all _ c.in_ok-declared.ensures.heads c.in-Some.declared c.in-Some.is c.requires c.empty-hand.result (c.empty-hand.ensures c.args.n))
 
 pub returns-in_err-t : goal.returns-in_err-t
 returns-in_err-t c =
-    let g = c.loop-t.invariant.3 in
+    let g = c.loop-t.invariant.2 in
     let p = err_from_is_err_and c.from_residual-in_err-t.result c.from_residual-in_err-t.ensures.1 in
     let e = number_fault _ _ _ _ _ _ _ _ _ _ _ _ g (rest_of c.number.new.self) _ c.in_err-t.ensures.counts in
     record { sound = undone_sound _ _ _ _ _ _ _ c.requires g.fronts _ (search rules); reads = rw (p.1, p.2) (undone _ _ _ _ _ _ _ c.requires g.fronts _ c.args.text.now _ e (search rules)) }
 
 pub returns-in_err-guard : goal.returns-in_err-guard
 returns-in_err-guard c =
-    let g = c.loop-t.invariant.3 in
+    let g = c.loop-t.invariant.2 in
     let t = c.in-Some-2.t.value in
     let fit : SFits w32 t = search rules in
     let z : t ≡ pos 0 = sym (to_z-of_z w32 t fit) ∙ ap (to_z w32) c.if-t-eq0.true in
@@ -50,39 +50,39 @@ returns-in_err-guard c =
     record { sound = undone_sound _ _ _ _ _ _ _ c.requires f _ (search rules); reads = rw (p.1, p.2) (undone _ _ _ _ _ _ _ c.requires f _ c.args.text.now _ e (search rules)) }
 
 pub loop-t-smaller-then-t-eq0 : goal.loop-t-smaller-then-t-eq0
-loop-t-smaller-then-t-eq0 c = shorter _ _ _ _ _ _ _ _ _ _ _ _ c.loop-t.invariant.3 (rest_of c.number.new.self) _ c.in_ok-t.ensures.counts c.in-Some-2.t c.in-Some-2.is
+loop-t-smaller-then-t-eq0 c = shorter _ _ _ _ _ _ _ _ _ _ _ _ c.loop-t.invariant.2 (rest_of c.number.new.self) _ c.in_ok-t.ensures.counts c.in-Some-2.t c.in-Some-2.is
 
 pub loop-t-preserved-then-t-eq0 : goal.loop-t-preserved-then-t-eq0
 loop-t-preserved-then-t-eq0 c =
-    let g = c.loop-t.invariant.3 in
+    let g = c.loop-t.invariant.2 in
     let t = c.in-Some-2.t.value in
     let fit : SFits w32 t = search rules in
     let z : t ≡ pos 0 = sym (to_z-of_z w32 t fit) ∙ ap (to_z w32) c.if-t-eq0.true in
     let a = c.in_ok-guard.ensures g.ts g.holds in
-    (refl, refl, refl, zero_added _ _ _ _ _ _ _ _ _ _ _ _ g (rest_of c.number.new.self) _ c.in_ok-t.ensures.counts c.in-Some-2.t c.in-Some-2.is z _ _ _ a _ (c.empty-hand-then-t-eq0.ensures c.args.n))
+    (refl, refl, zero_added _ _ _ _ _ _ _ _ _ _ _ _ g (rest_of c.number.new.self) _ c.in_ok-t.ensures.counts c.in-Some-2.t c.in-Some-2.is z _ _ _ a _ (c.empty-hand-then-t-eq0.ensures c.args.n))
 
 pub loop-t-smaller : goal.loop-t-smaller
-loop-t-smaller c = shorter _ _ _ _ _ _ _ _ _ _ _ _ c.loop-t.invariant.3 (rest_of c.number.new.self) _ c.in_ok-t.ensures.counts c.in-Some-2.t c.in-Some-2.is
+loop-t-smaller c = shorter _ _ _ _ _ _ _ _ _ _ _ _ c.loop-t.invariant.2 (rest_of c.number.new.self) _ c.in_ok-t.ensures.counts c.in-Some-2.t c.in-Some-2.is
 
 pub loop-t-preserved : goal.loop-t-preserved
 loop-t-preserved c =
-    let g = c.loop-t.invariant.3 in
+    let g = c.loop-t.invariant.2 in
     let t = c.in-Some-2.t.value in
     let fit : SFits w32 t = search rules in
     let z : t ≢ pos 0 = λ e. c.if-t-eq0.false (ap (of_z w32) e) in
     let h : Holds c.args.n c.push.new.self (g.ts ++ (t ∷ [])) = simp to_z-of_z at (c.push.ensures g.ts g.holds) in
-    (refl, refl, refl, literal_held _ _ _ _ _ _ _ _ _ _ _ _ g (rest_of c.number.new.self) _ c.in_ok-t.ensures.counts c.in-Some-2.t c.in-Some-2.is z _ h)
+    (refl, refl, literal_held _ _ _ _ _ _ _ _ _ _ _ _ g (rest_of c.number.new.self) _ c.in_ok-t.ensures.counts c.in-Some-2.t c.in-Some-2.is z _ h)
 
 pub returns-in_err-ended : goal.returns-in_err-ended
 returns-in_err-ended c =
-    let g = c.loop-t.invariant.3 in
+    let g = c.loop-t.invariant.2 in
     let p = err_from_is_err_and c.from_residual-in_err-ended.result c.from_residual-in_err-ended.ensures.1 in
     let e = at_end _ _ _ _ _ _ _ _ _ _ _ _ g (rest_of c.number.new.self) _ c.in_ok-t.ensures.counts c.in_default-2.is (Err _) c.in_err-ended.ensures in
     record { sound = undone_sound _ _ _ _ _ _ _ c.requires g.fronts _ (search rules); reads = rw (p.1, p.2) (undone _ _ _ _ _ _ _ c.requires g.fronts _ c.args.text.now _ e (search rules)) }
 
 pub returns : goal.returns
 returns c =
-    let g = c.loop-t.invariant.3 in
+    let g = c.loop-t.invariant.2 in
     let e = at_end _ _ _ _ _ _ _ _ _ _ _ _ g (rest_of c.number.new.self) _ c.in_ok-t.ensures.counts c.in_default-2.is (Ok tt) c.in_ok-ended.ensures in
     let k = c.loop-t.guard.counts.now in
     record { sound = done_sound _ _ _ k _ g.sound (search rules); reads = done_all _ _ _ k _ _ _ e (search rules) }
