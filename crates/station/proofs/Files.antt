@@ -48,10 +48,6 @@ pub count_is : (f : StationFile) → length f.ends ≡ 1000 → length (machine 
 unfolding machine machine_in
 count_is f tall = clauses_are f.variables f.lits f.ends f.counts (sound_file f) tall
 
-pub trials_are : (f : StationFile) → length f.marks ≡ 8 → length (machine f).trials ≡ f.depth
-unfolding machine machine_in
-trials_are f all = length-take-le f.depth f.marks (omega (arith, all, f.few_trials))
-
 abbrev pub ends_of : StationFile → List ℕ
 ends_of f = take f.counts.clauses f.ends
 

@@ -6,10 +6,12 @@ ghost use Rattle.station.specs.Views.{machine};
 
 use super::entering::append;
 use super::{Hand, MOST_VARIABLES, NONE, StationFile};
+use arrayvec::ArrayVec;
 use model::Decline;
 
 impl StationFile {
     // A file that was never started.
+    #[tactic(auto, unfolding(crate::specs::Views::machine, crate::specs::Views::machine_in, crate::specs::Views::standing, crate::specs::Cuts::parts, crate::specs::Cuts::rises, crate::specs::Cuts::last_of))]
     pub fn new() -> StationFile
         ensures { machine result ≡ fresh 0 0 }
     {
@@ -18,13 +20,13 @@ impl StationFile {
             number: 0,
             lits: [0; 8000],
             ends: [0; 1000],
-            marks: [0; 8],
-            depth: 0,
+            marks: ArrayVec::new(),
             counts: NONE,
         }
     }
 
     // Leaves a fresh file of so many variables, under this number, and so begins a life of which the law of lives holds.
+    #[tactic(auto, unfolding(crate::specs::Views::machine, crate::specs::Views::machine_in, crate::specs::Views::standing, crate::specs::Cuts::parts, crate::specs::Cuts::rises, crate::specs::Cuts::last_of))]
     pub fn start(&mut self, variables: u32, number: u32) -> Result<(), Decline>
         ensures starts { Starts (machine self.old) variables number (machine self.new) result }
         ensures lives { BeginsLife (machine self.new) result }
@@ -35,7 +37,7 @@ impl StationFile {
         if variables > MOST_VARIABLES {
             return Err(Decline::BadSize);
         }
-        if self.depth != 0 {
+        if !self.marks.is_empty() {
             return Err(Decline::TrialStands);
         }
         self.variables = variables as u8;
@@ -58,7 +60,6 @@ impl StationFile {
             lits,
             ends,
             marks: _,
-            depth: _,
             counts,
         } = self;
         let more = append(*variables, lits, ends, *counts, &hand)?;

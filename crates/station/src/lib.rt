@@ -1,7 +1,7 @@
 // The station file: at most 1,000 clauses over at most 200 variables, and trials that can be taken back.
 #![tactic(auto)]
 
-ghost use Rattle.std.specs.Prelude.{◌≡◌, ◌≤◌, true, take};
+ghost use Rattle.std.specs.Prelude.{◌≡◌, ◌<◌, ◌≤◌, true, take};
 ghost use Rattle.model.specs.Machine.{every, names};
 ghost use Rattle.station.specs.Cuts.{rises, last_of};
 
@@ -14,6 +14,7 @@ pub mod reading;
 mod tests;
 pub mod trials;
 
+use arrayvec::ArrayVec;
 pub use trials::Slip;
 
 // The most that a file holds: variables, different literals in one clause, clauses, literals of all clauses, and trials.
@@ -25,7 +26,7 @@ pub const MOST_CLAUSES: u16 = 1000;
 
 pub const MOST_LITERALS: usize = 8000;
 
-pub const MOST_TRIALS: u8 = 8;
+pub const MOST_TRIALS: usize = 8;
 
 // How many clauses stand, and how many literals in all.
 #[derive(Clone, Copy)]
@@ -47,16 +48,22 @@ pub struct StationFile {
     number: u32,
     lits: [i32; 8000],
     ends: [u16; 1000],
-    marks: [u16; 8],
-    depth: u8,
+    marks: ArrayVec<u16, MOST_TRIALS>,
     counts: Counts,
     ghost few_variables: { variables ≤ 200 },
     ghost few_clauses: { counts.clauses ≤ 1000 },
     ghost few_literals: { counts.literals ≤ 8000 },
-    ghost few_trials: { depth ≤ 8 },
     ghost rising: { rises 0 (take counts.clauses ends) ≡ true },
     ghost last: { last_of 0 (take counts.clauses ends) ≡ counts.literals },
     ghost named: { every (names variables) (take counts.literals lits) ≡ true },
+}
+
+// A trial that stands: the number of its file, and its depth, from 1.
+#[derive(Clone, Copy)]
+pub(crate) struct Held {
+    file: u32,
+    depth: usize,
+    ghost standing: { 0 < depth },
 }
 
 // What decides the entry of a clause, of however many literals: the first 25 different ones, and whether one was out of range.

@@ -33,6 +33,7 @@ impl StationFile {
         self.ends[i - 1] as usize
     }
 
+    #[tactic(auto, unfolding(crate::specs::Views::machine, crate::specs::Views::machine_in))]
     pub fn variables(&self) -> u8
         ensures { result ≡ (machine self.now).variables }
     {
@@ -40,6 +41,7 @@ impl StationFile {
     }
 
     // How many clauses stand.
+    #[tactic(auto, using(crate::proofs::Files::count_is))]
     pub fn clauses(&self) -> u32
         ensures { result ≡ length (machine self.now).clauses }
     {

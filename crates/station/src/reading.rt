@@ -112,7 +112,6 @@ impl StationFile {
             lits,
             ends,
             marks: _,
-            depth: _,
             counts,
         } = self;
         read_into(*variables, lits, ends, counts, text)

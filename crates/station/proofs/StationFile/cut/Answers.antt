@@ -18,7 +18,7 @@ invariant_of-self c =
     let f = c.args.self.now in
     let tall : length f.ends ≡ 1000 = search rules in
     let s = cut_sound f c.args.kept c.if-kept-self.true tall c.start_of-literals.result c.start_of-literals.ensures in
-    record { few_variables = f.few_variables; few_clauses = s.clauses; few_literals = omega (arith, s.literals, f.few_literals); few_trials = f.few_trials; rising = s.rising; last = s.last; named = s.named }
+    record { few_variables = f.few_variables; few_clauses = s.clauses; few_literals = omega (arith, s.literals, f.few_literals); rising = s.rising; last = s.last; named = s.named }
 
 pub returns-then-kept-self : goal.returns-then-kept-self
 unfolding machine machine_in

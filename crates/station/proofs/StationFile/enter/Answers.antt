@@ -30,7 +30,7 @@ returns-in_err-more c =
     let ts = c.args.literals.now in
     let r = c.in_err-more.ensures ts (held_all f.variables c.loop-t.hand ts c.loop-t.t-index c.loop-t-test.false c.loop-t.invariant) in
     let p = err_from_is_err_and c.from_residual.result c.from_residual.ensures.1 in
-    rw (p.1, p.2) (r.refused f.number (take f.depth f.marks), rw (r.same_lits, r.same_ends))
+    rw (p.1, p.2) (r.refused f.number f.marks.items, rw (r.same_lits, r.same_ends))
 
 pub returns : goal.returns
 unfolding machine
@@ -39,4 +39,4 @@ returns c =
     let ts = c.args.literals.now in
     let tall : length f.ends ≡ 1000 = search rules in
     let a = c.in_ok-more.ensures ts (held_all f.variables c.loop-t.hand ts c.loop-t.t-index c.loop-t-test.false c.loop-t.invariant) in
-    (a.allowed f.number (take f.depth f.marks), a.one ∙ ap (λ n. n + 1) (sym (count_is f tall)), a.now_in f.number (take f.depth f.marks))
+    (a.allowed f.number f.marks.items, a.one ∙ ap (λ n. n + 1) (sym (count_is f tall)), a.now_in f.number f.marks.items)
