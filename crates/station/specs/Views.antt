@@ -6,19 +6,20 @@ use Rattle.model.specs.Machine.{Machine, SlipState, blank, filled, clause_at}
 use Rattle.station.specs.declared.Counts.{Counts}
 use Rattle.station.specs.declared.Held.{Held}
 use Rattle.station.specs.declared.StationFile.{StationFile}
+use Rattle.station.specs.declared.Tables.{Tables}
 use Rattle.station.specs.declared.trials.Slip.{Slip}
 use Rattle.station.specs.Cuts.{parts}
 
 -- the clauses that stand: the literals, cut at the ends
-unfoldable pub standing : List ℤ → List ℕ → Counts → List Clause
-standing lits ends k = parts lits 0 (take k.clauses ends)
+unfoldable pub standing : Tables → Counts → List Clause
+standing t k = parts t.lits 0 (take k.clauses t.ends)
 
 -- the machine that the parts of a file stand for
-unfoldable pub machine_in : ℕ → ℕ → List ℤ → List ℕ → Counts → List ℕ → Machine
-machine_in n number lits ends k trials = record { variables = n; number = number; clauses = standing lits ends k; trials = trials }
+unfoldable pub machine_in : ℕ → ℕ → Tables → Counts → List ℕ → Machine
+machine_in n number t k trials = record { variables = n; number = number; clauses = standing t k; trials = trials }
 
 unfoldable pub machine : StationFile → Machine
-machine f = machine_in f.variables f.number f.lits f.ends f.counts f.marks.items
+machine f = machine_in f.variables f.number f.tables f.counts f.marks.items
 
 -- a machine with the first clauses only
 abbrev pub cut_to : ℕ → Machine → Machine

@@ -4,8 +4,7 @@ ghost use Rattle.lives.specs.Lives.{BeginsLife};
 ghost use Rattle.model.specs.Machine.{fresh, Starts, Enters};
 ghost use Rattle.station.specs.Views.{machine};
 
-use super::entering::append;
-use super::{Hand, MOST_VARIABLES, NONE, StationFile};
+use super::{Hand, MOST_VARIABLES, NONE, StationFile, Tables};
 use arrayvec::ArrayVec;
 use model::Decline;
 
@@ -18,10 +17,12 @@ impl StationFile {
         StationFile {
             variables: 0,
             number: 0,
-            lits: [0; 8000],
-            ends: [0; 1000],
-            marks: ArrayVec::new(),
+            tables: Tables {
+                lits: [0; 8000],
+                ends: [0; 1000],
+            },
             counts: NONE,
+            marks: ArrayVec::new(),
         }
     }
 
@@ -50,20 +51,11 @@ impl StationFile {
     pub fn enter(&mut self, literals: &[i32]) -> Result<u32, Decline>
         ensures { Enters (machine self.old) literals.now (machine self.new) result }
     {
-        let mut hand = Hand::empty();
+        let mut hand = Hand::empty(self.variables);
         for t in literals {
-            hand.push(self.variables, *t);
+            hand.push(*t);
         }
-        let StationFile {
-            variables,
-            number: _,
-            lits,
-            ends,
-            marks: _,
-            counts,
-        } = self;
-        let more = append(*variables, lits, ends, *counts, &hand)?;
-        *counts = more;
-        Ok(more.clauses as u32)
+        self.counts = self.tables.append(self.counts, &hand)?;
+        Ok(self.counts.clauses as u32)
     }
 }
