@@ -68,10 +68,7 @@ module _ (n : ℕ) (t : Tables) (k : Counts) (s : Sound n t k) (ts : List ℤ) (
       rw (ne_eqb n 0 some, f.named, wide, lt-leb 1000 (length (standing t k)) q, lt-ltb 8000 (literals (standing t k) + length (merged [] ts)) v)
 
   -- the clause stands after the others, and one end more
-  module _ (c : k.clauses < 1000) (w : k.literals + length C ≤ 8000) (t' : Tables) (size : length t'.lits ≡ 8000) (l : take (k.literals + length C) t'.lits ≡ take k.literals t.lits ++ C) (b : t'.ends ≡ set t.ends k.clauses (k.literals + length C)) where
-    abbrev to : ℕ
-    to = k.literals + length C
-
+  module _ (to : ℕ) (top : to ≡ k.literals + length C) (c : k.clauses < 1000) (w : to ≤ 8000) (t' : Tables) (size : length t'.lits ≡ 8000) (l : take to t'.lits ≡ take k.literals t.lits ++ C) (b : t'.ends ≡ set t.ends k.clauses to) where
     abbrev more : Counts
     more = record { clauses = k.clauses + 1; literals = to }
 

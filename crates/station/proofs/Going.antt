@@ -1,7 +1,5 @@
 -- One turn of reading a text into a file: where reading stands, as the code has it, and what each number does to it.
 use Rattle.std.proofs.Common.{◌≡◌, ℕ, suc, ◌+◌, ◌<◌, ◌≢◌, List, [], ◌∷◌, ◌++◌, length, ℤ, pos, Some, None, Ok, Err, Option, Result, sym, refl, ap, ◌∙◌, subst, arith}
-use Rattle.std.specs.Result.{MatchResult, IsErrAnd}
-use Rattle.std.proofs.lemmas.Result.{err_from_is_err_and}
 use Rattle.model.specs.declared.Decline.{Decline}
 use Rattle.model.specs.declared.ReadFault.{ReadFault}
 use Rattle.model.specs.declared.ReadFault.TheVariants.{InText}
@@ -21,16 +19,6 @@ use Rattle.station.specs.Views.{machine_in}
 use Rattle.station.specs.Hands.{Holds, Fronts, Added, Refused}
 use Rattle.station.specs.Readings.{stands, ending, Ended}
 use Rattle.station.proofs.Fronts.{fronts_none, fronts_more, left_sound, left_machine}
-
--- an answer that was passed on with another error: what it was before
-module _ {A D F : Type 0} (Q : D → F → Type 0) where
-  pub ok_before : (r : Result A D) (r' : Result A F) → MatchResult r (λ x. r' ≡ Ok x) (λ e. IsErrAnd r' (Q e)) → (x : A) → r' ≡ Ok x → r ≡ Ok x
-  ok_before (Ok y) r' m x e = let h = sym m ∙ e in cc
-  ok_before (Err d) r' m x e = absurd (let p = err_from_is_err_and r' m in let z : ◌≡◌ {A = ℕ} 0 1 = cc (p.1, e) in omega arith)
-
-  pub err_before : (g : D → F) → ((d : D) (f : F) → Q d f → f ≡ g d) → (r : Result A D) (r' : Result A F) → MatchResult r (λ x. r' ≡ Ok x) (λ e. IsErrAnd r' (Q e)) → (f : F) → r' ≡ Err f → (d : D) × (r ≡ Err d) × (f ≡ g d)
-  err_before g w (Ok y) r' m f e = absurd (let z : ◌≡◌ {A = ℕ} 0 1 = cc (m, e) in omega arith)
-  err_before g w (Err d) r' m f e = let p = err_from_is_err_and r' m in let q : f ≡ p.0 = cc (p.1, e) in (d, refl, q ∙ w d p.0 p.2)
 
 -- some literals are in hand, and going on from here answers what the whole text does
 pub record Going (n : ℕ) (text : List ℕ) (t₀ : Tables) (saved : Counts) (tables : Tables) (k : Counts) (c done : ℕ) (h : Hand) (rest : List Placed) : Type 0 where

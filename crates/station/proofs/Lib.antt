@@ -1,5 +1,6 @@
 pub mod Cuts
 pub mod Files
+pub mod Passed
 pub mod Appending
 pub mod Pushed
 pub mod Fronts

@@ -28,10 +28,7 @@ impl Hand {
     pub(crate) fn is_empty(&self) -> bool
         ensures { (n : ℕ) (ts : List ℤ) → Holds n self.now ts → Tells result (ts ≡ []) }
     {
-        match &self.clause {
-            Ok(kept) => kept.is_empty(),
-            Err(_) => false,
-        }
+        matches!(&self.clause, Ok(kept) if kept.is_empty())
     }
 
     // Adds a literal. One out of range is the decline, whatever came before.
@@ -66,10 +63,7 @@ impl Tables {
         if hand.variables == 0 {
             return Err(Decline::NotStarted);
         }
-        let clause = match &hand.clause {
-            Ok(clause) => clause.as_slice(),
-            Err(decline) => return Err(*decline),
-        };
+        let clause = hand.clause.as_ref().map_err(|decline| *decline)?;
         if counts.clauses >= MOST_CLAUSES {
             return Err(Decline::ClausesFull);
         }

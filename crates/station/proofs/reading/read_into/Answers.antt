@@ -10,8 +10,9 @@ use Rattle.station.specs.declared.Tables.{Tables}
 use Rattle.station.specs.Tables.{Sound}
 use Rattle.station.specs.Hands.{Fronts}
 use Rattle.station.proofs.Fronts.{fronts_none}
+use Rattle.station.proofs.Passed.{ok_before, err_before}
 use Rattle.station.proofs.Pushed.{holds_push}
-use Rattle.station.proofs.Going.{heading_fault, heading_none, heading_on, number_fault, at_end, shorter, zero_refused, zero_added, literal_held, ok_before, err_before, undone, undone_sound, done_sound, done_all}
+use Rattle.station.proofs.Going.{heading_fault, heading_none, heading_on, number_fault, at_end, shorter, zero_refused, zero_added, literal_held, undone, undone_sound, done_sound, done_all}
 use Rattle.station.proofs.reading.read_into.Goals as goal
 
 pub returns-then-n-eq0 : goal.returns-then-n-eq0
