@@ -1,89 +1,82 @@
 -- What every station file is: its clauses speak of its variables, and there are few of both.
-use Rattle.std.proofs.Common.{◌≡◌, ℕ, zero, suc, ◌-◌, ◌<◌, ◌≤◌, List, length, get_or, take, drop, ℤ, Some, sym, refl, ap, ◌∙◌, arith}
+use Rattle.std.proofs.Common.{◌≡◌, ℕ, zero, suc, ◌-◌, ◌<◌, ◌≤◌, List, length, get_or, take, drop, Some, sym, refl, ap, ◌∙◌, arith}
 use Rattle.std.specs.List.{slice_get}
-use Rattle.std.proofs.lemmas.List.{length-take, length-take-le, get_or-take}
+use Rattle.std.proofs.lemmas.List.{length-take-le, get_or-take}
 use Rattle.model.specs.Clauses.{Clause, Over}
 use Rattle.model.specs.Machine.{names, literals, clause_at}
 use Rattle.model.proofs.Merging.{clauses_over}
 use Rattle.station.specs.declared.Counts.{Counts}
 use Rattle.station.specs.declared.StationFile.{StationFile}
+use Rattle.station.specs.declared.Tables.{Tables}
 use Rattle.station.specs.Cuts.{start_of}
+use Rattle.station.specs.Tables.{Sound}
 use Rattle.station.specs.Views.{standing, machine_in, machine}
-use Rattle.station.specs.Hands.{Sound}
-use Rattle.station.proofs.Cuts.{length_parts, literals_parts, literals_most, parts_pass, start_is, nth_part, place_bounds}
+use Rattle.station.proofs.Cuts.{length_parts, literals_parts, parts_pass, start_is, nth_part, place_bounds}
 
-pub sound_file : (f : StationFile) → Sound f.variables f.lits f.ends f.counts
-sound_file f = record { clauses = f.few_clauses; literals = f.few_literals; rising = f.rising; last = f.last; named = f.named }
-
-module _ (n : ℕ) (lits : List ℤ) (ends : List ℕ) (k : Counts) (s : Sound n lits ends k) where
-  pub sound_over : Over n (standing lits ends k)
+module _ (n : ℕ) (t : Tables) (k : Counts) (s : Sound n t k) where
+  pub sound_over : Over n (standing t k)
   unfolding standing
-  sound_over = clauses_over n _ (parts_pass (names n) 0 k.literals (take k.clauses ends) lits s.rising (omega (arith, s.last)) s.named)
+  sound_over = clauses_over n _ (parts_pass (names n) 0 k.literals (take k.clauses t.ends) t.lits s.rising (omega (arith, s.last)) s.named)
 
-  pub literals_are : length lits ≡ 8000 → literals (standing lits ends k) ≡ k.literals
+  pub literals_are : literals (standing t k) ≡ k.literals
   unfolding standing
-  literals_are wide = omega (arith, literals_parts 0 (take k.clauses ends) lits s.rising (omega (arith, s.last, s.literals, wide)), s.last)
+  literals_are = omega (arith, literals_parts 0 (take k.clauses t.ends) t.lits s.rising (omega (arith, s.last, s.literals, s.wide)), s.last)
 
-  pub clauses_are : length ends ≡ 1000 → length (standing lits ends k) ≡ k.clauses
+  pub clauses_are : length (standing t k) ≡ k.clauses
   unfolding standing
-  clauses_are tall = length_parts 0 (take k.clauses ends) lits ∙ length-take-le k.clauses ends (omega (arith, tall, s.clauses))
+  clauses_are = length_parts 0 (take k.clauses t.ends) t.lits ∙ length-take-le k.clauses t.ends (omega (arith, s.tall, s.clauses))
 
 pub over_file : (f : StationFile) → Over (machine f).variables (machine f).clauses
 unfolding machine machine_in
-over_file f = sound_over f.variables f.lits f.ends f.counts (sound_file f)
+over_file f = sound_over f.variables f.tables f.counts f.sound
 
 pub small_file : (f : StationFile) → (machine f).variables ≤ 200
 unfolding machine machine_in
 small_file f = f.few_variables
 
+pub count_is : (f : StationFile) → length (machine f).clauses ≡ f.counts.clauses
+unfolding machine machine_in
+count_is f = clauses_are f.variables f.tables f.counts f.sound
+
 pub few_clauses : (f : StationFile) → length (machine f).clauses ≤ 1000
-unfolding machine machine_in standing
-few_clauses f = omega (arith, length_parts 0 (take f.counts.clauses f.ends) f.lits, length-take f.counts.clauses f.ends, f.few_clauses)
+few_clauses f = omega (arith, count_is f, f.sound.clauses)
 
 pub few_literals : (f : StationFile) → literals (machine f).clauses ≤ 8000
-unfolding machine machine_in standing
-few_literals f = omega (arith, literals_most 0 (take f.counts.clauses f.ends) f.lits f.rising, f.last, f.few_literals)
-
-pub count_is : (f : StationFile) → length f.ends ≡ 1000 → length (machine f).clauses ≡ f.counts.clauses
 unfolding machine machine_in
-count_is f tall = clauses_are f.variables f.lits f.ends f.counts (sound_file f) tall
-
-pub trials_are : (f : StationFile) → length f.marks ≡ 8 → length (machine f).trials ≡ f.depth
-unfolding machine machine_in
-trials_are f all = length-take-le f.depth f.marks (omega (arith, all, f.few_trials))
+few_literals f = omega (arith, literals_are f.variables f.tables f.counts f.sound, f.sound.literals)
 
 abbrev pub ends_of : StationFile → List ℕ
-ends_of f = take f.counts.clauses f.ends
+ends_of f = take f.counts.clauses f.tables.ends
 
-module _ (f : StationFile) (tall : length f.ends ≡ 1000) where
+module _ (f : StationFile) where
   many : length (ends_of f) ≡ f.counts.clauses
-  many = length-take-le f.counts.clauses f.ends (omega (arith, tall, f.few_clauses))
+  many = length-take-le f.counts.clauses f.tables.ends (omega (arith, f.sound.tall, f.sound.clauses))
 
-  pub start_before : (i : ℕ) → (i ≡ 0 → ⊥) → i ≤ f.counts.clauses → get_or f.ends (i - 1) 0 ≡ start_of 0 (ends_of f) i
+  pub start_before : (i : ℕ) → (i ≡ 0 → ⊥) → i ≤ f.counts.clauses → get_or f.tables.ends (i - 1) 0 ≡ start_of 0 (ends_of f) i
   start_before i h l =
       let e : i ≡ suc (i - 1) = omega arith in
       let k : i - 1 < length (ends_of f) = omega (arith, many) in
       let b : i - 1 < f.counts.clauses = omega arith in
-      sym (ap (start_of 0 (ends_of f)) e ∙ (start_is 0 (ends_of f) (i - 1) k ∙ get_or-take f.counts.clauses f.ends (i - 1) 0 b))
+      sym (ap (start_of 0 (ends_of f)) e ∙ (start_is 0 (ends_of f) (i - 1) k ∙ get_or-take f.counts.clauses f.tables.ends (i - 1) 0 b))
 
   module _ (i : ℕ) (low : i < f.counts.clauses) where
     inside : i < length (ends_of f)
     inside = rw many low
 
-    here : get_or (ends_of f) i 0 ≡ get_or f.ends i 0
-    here = get_or-take f.counts.clauses f.ends i 0 low
+    here : get_or (ends_of f) i 0 ≡ get_or f.tables.ends i 0
+    here = get_or-take f.counts.clauses f.tables.ends i 0 low
 
-    bounds : (start_of 0 (ends_of f) i ≤ get_or f.ends i 0) × (get_or f.ends i 0 ≤ 8000)
+    bounds : (start_of 0 (ends_of f) i ≤ get_or f.tables.ends i 0) × (get_or f.tables.ends i 0 ≤ 8000)
     bounds =
-        let b = place_bounds 0 (ends_of f) i inside f.rising in
-        (omega (arith, b.0, here), omega (arith, b.1, here, f.last, f.few_literals))
+        let b = place_bounds 0 (ends_of f) i inside f.sound.rising in
+        (omega (arith, b.0, here), omega (arith, b.1, here, f.sound.last, f.sound.literals))
 
-    pub shown : slice_get (machine f).clauses i ≡ Some (take (get_or f.ends i 0 - start_of 0 (ends_of f) i) (drop (start_of 0 (ends_of f) i) f.lits))
+    pub shown : slice_get (machine f).clauses i ≡ Some (take (get_or f.tables.ends i 0 - start_of 0 (ends_of f) i) (drop (start_of 0 (ends_of f) i) f.tables.lits))
     unfolding machine machine_in standing
-    shown = nth_part 0 (ends_of f) i f.lits inside ∙ ap (λ e. Some (take (e - start_of 0 (ends_of f) i) (drop (start_of 0 (ends_of f) i) f.lits))) here
+    shown = nth_part 0 (ends_of f) i f.tables.lits inside ∙ ap (λ e. Some (take (e - start_of 0 (ends_of f) i) (drop (start_of 0 (ends_of f) i) f.tables.lits))) here
 
   -- where the clause numbered k lies
-  pub lies : (k from : ℕ) → (k ≡ 0 → ⊥) → k ≤ f.counts.clauses → from ≡ start_of 0 (ends_of f) (k - 1) → (from ≤ get_or f.ends (k - 1) 0) × (get_or f.ends (k - 1) 0 ≤ 8000)
+  pub lies : (k from : ℕ) → (k ≡ 0 → ⊥) → k ≤ f.counts.clauses → from ≡ start_of 0 (ends_of f) (k - 1) → (from ≤ get_or f.tables.ends (k - 1) 0) × (get_or f.tables.ends (k - 1) 0 ≤ 8000)
   lies k from h l e =
       let low : k - 1 < f.counts.clauses = omega arith in
       let b = bounds (k - 1) low in

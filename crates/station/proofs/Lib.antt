@@ -1,7 +1,8 @@
 pub mod Cuts
 pub mod Files
-pub mod Pushed
+pub mod Passed
 pub mod Appending
+pub mod Pushed
 pub mod Fronts
 pub mod Going
 pub mod Slips

@@ -1,46 +1,57 @@
 -- A hand with one more literal.
-use Rattle.std.proofs.Common.{◌≡◌, ℕ, ◌+◌, ◌<◌, ◌≤◌, min, Bool, true, false, cond, not, ◌||◌, List, [], ◌∷◌, ◌++◌, length, take, set, ℤ, sym, refl, ap, ◌∙◌, arith}
-use Rattle.std.proofs.lemmas.List.{take_all, take-append-le, length_push, length-take, length-take-le, take_more_set}
-use Rattle.model.specs.Clauses.{has}
+use Rattle.std.proofs.Common.{◌≡◌, ℕ, ◌≤◌, Bool, true, false, cond, ◌||◌, ltb, List, [], ◌∷◌, ◌++◌, length, ℤ, Ok, Err, sym, refl, ap, ◌∙◌, arith}
+use Rattle.std.specs.List.{list_any}
+use Rattle.std.specs.Ordering.{int_eq}
+use Rattle.std.proofs.lemmas.List.{length_push}
+use Rattle.std.proofs.lemmas.Bool.{lt-ltb, le-ltb, ltb-true}
+use Rattle.std.proofs.lemmas.Bool.Decides.{same_from_decides, Decides-int_eq}
+use Rattle.arrayvec.specs.ArrayVec.{ArrayVec}
+use Rattle.model.specs.declared.Decline.TheVariants.{BadLiteral, WideClause}
+use Rattle.model.specs.Clauses.{Clause, same, has}
 use Rattle.model.specs.Machine.{every, names, merged}
 use Rattle.model.proofs.Merging.{every_append, merged_push}
+use Rattle.model.proofs.Signs.{same_refl, same_true}
+use Rattle.station.specs.declared.Hand.{Hand}
+use Rattle.station.specs.Hands.{fitting, gathered, joined, Holds}
 
-pub range_push : (n : ℕ) (ts : List ℤ) (t : ℤ) (bad : Bool) → bad ≡ not (every (names n) ts) → (bad || not (names n t)) ≡ not (every (names n) (ts ++ (t ∷ [])))
-range_push n ts t bad e = ap (λ b. b || not (names n t)) e ∙ (look (every (names n) ts) (names n t) ∙ ap not (sym (every_append (names n) ts (t ∷ []))))
+-- a slice's search for a literal is that of the clause
+pub any_has : (C : Clause) (t : ℤ) → list_any (λ y. int_eq y t) C ≡ has C t
+any_has [] t = refl
+any_has (u ∷ C) t =
+    let e : int_eq u t ≡ same u t = same_from_decides _ _ (Decides-int_eq u t) (same_true u t, λ p. ap (same u) (sym p) ∙ same_refl u) in
+    rw (e, any_has C t) (look (same u t) (has C t))
   where
-    look : (a b : Bool) → (not a || not b) ≡ not (cond a (cond b true false) false)
-    look true true = refl
-    look true false = refl
+    look : (a b : Bool) → (a || b) ≡ cond a true b
+    look true b = refl
     look false b = refl
 
-module _ (K : List ℤ) (len : ℕ) (ts : List ℤ) (t : ℤ) (room : length K ≡ 25) (small : len ≤ 25) (kept : take len K ≡ take 25 (merged [] ts)) where
-  long : len ≡ min 25 (length (merged [] ts))
-  long = sym (length-take-le len K (omega arith)) ∙ (ap length kept ∙ length-take 25 (merged [] ts))
+-- a literal in range joins a clause: it stands there already, or there is no room, or it comes last
+module _ (n : ℕ) (v : ArrayVec ℤ) (t : ℤ) (C : Clause) (b : Bool) (i : names n t ≡ true) (all : C ≡ v.items) (h : b ≡ list_any (λ y. int_eq y t) C) where
+  has_it : has v.items t ≡ b
+  has_it = sym (any_has v.items t) ∙ (ap (list_any (λ y. int_eq y t)) (sym all) ∙ sym h)
 
-  pub push_full : 25 ≤ len → take len K ≡ take 25 (merged [] (ts ++ (t ∷ [])))
-  push_full f =
-      let l : 25 ≤ length (merged [] ts) = omega (arith, long) in
-      kept ∙ (look (has (merged [] ts) t) (sym (take-append-le 25 (merged [] ts) (t ∷ []) l)) ∙ ap (take 25) (sym (merged_push [] ts t)))
-    where
-      look : (b : Bool) → take 25 (merged [] ts) ≡ take 25 (merged [] ts ++ (t ∷ [])) → take 25 (merged [] ts) ≡ take 25 (cond b (merged [] ts) (merged [] ts ++ (t ∷ [])))
-      look true e = refl
-      look false e = e
+  pub joined_old : b ≡ true → joined n (Ok v) t ≡ Ok v
+  joined_old e = rw (i, has_it, e)
 
-  all_kept : len < 25 → merged [] ts ≡ take len K
-  all_kept s =
-      let l : length (merged [] ts) ≤ 25 = omega (arith, long) in
-      sym (kept ∙ take_all 25 (merged [] ts) l)
+  pub joined_wide : b ≡ false → length v.items ≡ 24 → joined n (Ok v) t ≡ Err WideClause
+  joined_wide e l = rw (i, has_it, e, lt-ltb 24 (length (v.items ++ (t ∷ []))) (omega (arith, l, length_push v.items t)))
 
-  pub push_old : len < 25 → has (take len K) t ≡ true → take len K ≡ take 25 (merged [] (ts ++ (t ∷ [])))
-  push_old s h =
-      let e = all_kept s in
-      let m : merged [] (ts ++ (t ∷ [])) ≡ merged [] ts = merged_push [] ts t ∙ ap (λ b. cond b (merged [] ts) (merged [] ts ++ (t ∷ []))) (ap (λ x. has x t) e ∙ h) in
-      kept ∙ ap (take 25) (sym m)
+  pub joined_new : (w : ArrayVec ℤ) → b ≡ false → w.items ≡ v.items ++ (t ∷ []) → length w.items ≤ 24 → joined n (Ok v) t ≡ Ok w
+  joined_new w e a l = rw (i, has_it, e, sym a, le-ltb 24 (length w.items) l)
 
-  pub push_new : len < 25 → has (take len K) t ≡ false → take (len + 1) (set K len t) ≡ take 25 (merged [] (ts ++ (t ∷ [])))
-  push_new s h =
-      let e = all_kept s in
-      let r : len < length K = omega arith in
-      let m : merged [] (ts ++ (t ∷ [])) ≡ take len K ++ (t ∷ []) = merged_push [] ts t ∙ (ap (λ b. cond b (merged [] ts) (merged [] ts ++ (t ∷ []))) (ap (λ x. has x t) e ∙ h) ∙ ap (λ x. x ++ (t ∷ [])) e) in
-      let l : length (take len K ++ (t ∷ [])) ≤ 25 = omega (arith, length_push (take len K) t, length-take-le len K (omega arith)) in
-      take_more_set K len t r ∙ (sym (take_all 25 (take len K ++ (t ∷ [])) l) ∙ ap (take 25) (sym m))
+-- what is gathered of one literal more
+pub gathered_push : (n : ℕ) (ts : List ℤ) (t : ℤ) → gathered n (ts ++ (t ∷ [])) ≡ joined n (gathered n ts) t
+gathered_push n ts t = rw (every_append (names n) ts (t ∷ []), merged_push [] ts t) (look (every (names n) ts) (names n t) (has (merged [] ts) t) (ltb 24 (length (merged [] ts))) (merged [] ts) refl refl refl)
+  where
+    look : (a b h w : Bool) (C : Clause) → names n t ≡ b → has C t ≡ h → ltb 24 (length C) ≡ w → cond (cond a (cond b true false) false) (fitting (cond h C (C ++ (t ∷ [])))) (Err BadLiteral) ≡ joined n (cond a (fitting C) (Err BadLiteral)) t
+    look false true h w C p q r = rw p
+    look false false h w C p q r = rw p
+    look true false h true C p q r = rw (r, p)
+    look true false h false C p q r = rw (r, p)
+    look true true true true C p q r = rw (r, p)
+    look true true false true C p q r = rw (r, p, lt-ltb 24 (length (C ++ (t ∷ []))) (omega (arith, ltb-true 24 (length C) r, length_push C t)))
+    look true true true false C p q r = rw (r, p, q)
+    look true true false false C p q r = rw (r, p, q)
+
+pub holds_push : (n : ℕ) (ts : List ℤ) (t : ℤ) (h h' : Hand) → Holds n h ts → h'.variables ≡ h.variables → h'.clause ≡ joined h.variables h.clause t → Holds n h' (ts ++ (t ∷ []))
+holds_push n ts t h h' g e q = record { size = e ∙ g.size; clause = q ∙ rw (g.size, g.clause, gathered_push n ts t) }

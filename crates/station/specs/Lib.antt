@@ -1,4 +1,5 @@
 pub mod Cuts
+pub mod Tables
 pub mod Views
 pub mod Hands
 pub mod Readings

@@ -1,6 +1,5 @@
 -- What the parts of reading a text into a file answer.
 use Rattle.std.specs.Prelude.{◌≡◌, ℕ, List, ℤ, Some, Ok, Err, Result}
-use Rattle.model.specs.declared.FileFault.{FileFault}
 use Rattle.model.specs.declared.ReadFault.{ReadFault}
 use Rattle.model.specs.declared.ReadFault.TheVariants.{InText}
 use Rattle.model.specs.declared.TextFault.{TextFault}
@@ -8,13 +7,9 @@ use Rattle.model.specs.Machine.{Machine}
 use Rattle.model.specs.Reading.{Reading, State, accepted, faulty, finish, Reads}
 use Rattle.station.specs.declared.Counts.{Counts}
 use Rattle.station.specs.declared.Hand.{Hand}
+use Rattle.station.specs.declared.Tables.{Tables}
 use Rattle.station.specs.Views.{machine_in}
-use Rattle.station.specs.Hands.{Holds, Added, Refused}
-
--- the clause ts, whose 0 stands at a place, is entered, or refused at that place
-abbrev pub EnteredAt : ℕ → ℕ → List ℤ → List ℕ → Counts → List ℤ → List ℤ → List ℕ → Result Counts FileFault → Type 0
-EnteredAt place n lits ends k ts lits' ends' (Ok k') = Added n lits ends k ts lits' ends' k'
-EnteredAt place n lits ends k ts lits' ends' (Err f) = (f.place ≡ place) × Refused n lits ends k ts lits' ends' f.decline
+use Rattle.station.specs.Hands.{Holds}
 
 -- where reading stands after a problem line that says c
 abbrev pub stands : ℕ → Machine → ℕ → List ℤ → State
@@ -29,7 +24,7 @@ ending s (Err e) = faulty (InText e)
 abbrev pub Ended : ℕ → ℕ → Hand → ℕ → Result (Unit {0}) TextFault → Type 0
 Ended c done h size r = (n : ℕ) (m : Machine) (ts : List ℤ) → Holds n h ts → finish size (stands c m done ts) ≡ ending (stands c m done ts) r
 
--- a text is read into the parts of a file, whatever its number and its trials
-abbrev pub ReadInto : ℕ → List ℤ → List ℕ → Counts → List ℕ → List ℤ → List ℕ → Counts → Result ℕ ReadFault → Type 0
-ReadInto n lits ends k text lits' ends' k' r =
-    (number : ℕ) (trials : List ℕ) → Reads (machine_in n number lits ends k trials) text (machine_in n number lits' ends' k' trials) r
+-- a text is read into the tables of a file, whatever its number and its trials
+abbrev pub ReadInto : ℕ → Tables → Counts → List ℕ → Tables → Counts → Result ℕ ReadFault → Type 0
+ReadInto n t k text t' k' r =
+    (number : ℕ) (trials : List ℕ) → Reads (machine_in n number t k trials) text (machine_in n number t' k' trials) r

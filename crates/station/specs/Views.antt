@@ -1,23 +1,25 @@
 -- What a station file and a slip mean: the plain machine and the state of a slip that they stand for.
-use Rattle.std.specs.Prelude.{◌≡◌, ℕ, cond, List, take, ℤ, Some, None, Option, ◌==◌}
+use Rattle.std.specs.Prelude.{◌≡◌, ℕ, List, take, ℤ, Some, None, Option}
 use Rattle.std.specs.Borrow.{Bor}
 use Rattle.model.specs.Clauses.{Clause}
 use Rattle.model.specs.Machine.{Machine, SlipState, blank, filled, clause_at}
 use Rattle.station.specs.declared.Counts.{Counts}
+use Rattle.station.specs.declared.Held.{Held}
 use Rattle.station.specs.declared.StationFile.{StationFile}
+use Rattle.station.specs.declared.Tables.{Tables}
 use Rattle.station.specs.declared.trials.Slip.{Slip}
 use Rattle.station.specs.Cuts.{parts}
 
 -- the clauses that stand: the literals, cut at the ends
-unfoldable pub standing : List ℤ → List ℕ → Counts → List Clause
-standing lits ends k = parts lits 0 (take k.clauses ends)
+unfoldable pub standing : Tables → Counts → List Clause
+standing t k = parts t.lits 0 (take k.clauses t.ends)
 
 -- the machine that the parts of a file stand for
-unfoldable pub machine_in : ℕ → ℕ → List ℤ → List ℕ → Counts → List ℕ → Machine
-machine_in n number lits ends k trials = record { variables = n; number = number; clauses = standing lits ends k; trials = trials }
+unfoldable pub machine_in : ℕ → ℕ → Tables → Counts → List ℕ → Machine
+machine_in n number t k trials = record { variables = n; number = number; clauses = standing t k; trials = trials }
 
 unfoldable pub machine : StationFile → Machine
-machine f = machine_in f.variables f.number f.lits f.ends f.counts (take f.depth f.marks)
+machine f = machine_in f.variables f.number f.tables f.counts f.marks.items
 
 -- a machine with the first clauses only
 abbrev pub cut_to : ℕ → Machine → Machine
@@ -28,6 +30,10 @@ abbrev pub Shown : Machine → ℕ → Option (Bor (List ℤ)) → Type 0
 Shown m k None = clause_at m.clauses k ≡ None
 Shown m k (Some r) = clause_at m.clauses k ≡ Some r.now
 
--- a slip is blank at depth 0
+unfoldable pub state_of : Option Held → SlipState
+state_of None = blank
+state_of (Some h) = filled h.file h.depth
+
+-- a slip is blank where it holds no trial
 unfoldable pub slip_state : Slip → SlipState
-slip_state s = cond (s.depth == 0) blank (filled s.file s.depth)
+slip_state s = state_of s.held

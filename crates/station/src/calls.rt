@@ -4,27 +4,30 @@ ghost use Rattle.lives.specs.Lives.{BeginsLife};
 ghost use Rattle.model.specs.Machine.{fresh, Starts, Enters};
 ghost use Rattle.station.specs.Views.{machine};
 
-use super::entering::append;
-use super::{Hand, MOST_VARIABLES, NONE, StationFile};
+use super::{Hand, MOST_VARIABLES, NONE, StationFile, Tables};
+use arrayvec::ArrayVec;
 use model::Decline;
 
 impl StationFile {
     // A file that was never started.
+    #[tactic(auto, unfolding(crate::specs::Views::machine, crate::specs::Views::machine_in, crate::specs::Views::standing, crate::specs::Cuts::parts, crate::specs::Cuts::rises, crate::specs::Cuts::last_of))]
     pub fn new() -> StationFile
         ensures { machine result ≡ fresh 0 0 }
     {
         StationFile {
             variables: 0,
             number: 0,
-            lits: [0; 8000],
-            ends: [0; 1000],
-            marks: [0; 8],
-            depth: 0,
+            tables: Tables {
+                lits: [0; 8000],
+                ends: [0; 1000],
+            },
             counts: NONE,
+            marks: ArrayVec::new(),
         }
     }
 
     // Leaves a fresh file of so many variables, under this number, and so begins a life of which the law of lives holds.
+    #[tactic(auto, unfolding(crate::specs::Views::machine, crate::specs::Views::machine_in, crate::specs::Views::standing, crate::specs::Cuts::parts, crate::specs::Cuts::rises, crate::specs::Cuts::last_of))]
     pub fn start(&mut self, variables: u32, number: u32) -> Result<(), Decline>
         ensures starts { Starts (machine self.old) variables number (machine self.new) result }
         ensures lives { BeginsLife (machine self.new) result }
@@ -35,7 +38,7 @@ impl StationFile {
         if variables > MOST_VARIABLES {
             return Err(Decline::BadSize);
         }
-        if self.depth != 0 {
+        if !self.marks.is_empty() {
             return Err(Decline::TrialStands);
         }
         self.variables = variables as u8;
@@ -48,21 +51,11 @@ impl StationFile {
     pub fn enter(&mut self, literals: &[i32]) -> Result<u32, Decline>
         ensures { Enters (machine self.old) literals.now (machine self.new) result }
     {
-        let mut hand = Hand::empty();
+        let mut hand = Hand::empty(self.variables);
         for t in literals {
-            hand.push(self.variables, *t);
+            hand.push(*t);
         }
-        let StationFile {
-            variables,
-            number: _,
-            lits,
-            ends,
-            marks: _,
-            depth: _,
-            counts,
-        } = self;
-        let more = append(*variables, lits, ends, *counts, &hand)?;
-        *counts = more;
-        Ok(more.clauses as u32)
+        self.counts = self.tables.append(self.counts, &hand)?;
+        Ok(self.counts.clauses as u32)
     }
 }

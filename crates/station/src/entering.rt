@@ -1,22 +1,12 @@
-// Entering a clause: literals are gathered in a hand, which is then appended to the parts of a file.
+// Entering a clause: literals are gathered in a hand, which is then appended to the tables of a file.
 ghost use Rattle.std.specs.Prelude.{◌≡◌, ℕ, List, [], ◌∷◌, ◌++◌, ℤ};
-ghost use Rattle.model.specs.Clauses.{has};
 ghost use Rattle.model.specs.Machine.{names};
-ghost use Rattle.station.specs.Hands.{Holds, Sound, Appended, Tells};
+ghost use Rattle.station.specs.Tables.{Sound};
+ghost use Rattle.station.specs.Hands.{Holds, Appended, Tells, joined};
 
-use super::{Counts, Hand, MOST_CLAUSES, MOST_DIFFERENT, MOST_LITERALS};
+use super::{Counts, Hand, MOST_CLAUSES, MOST_LITERALS, Tables};
+use arrayvec::ArrayVec;
 use model::Decline;
-
-fn held(part: &[i32], t: i32) -> bool
-    ensures { result ≡ has part.now t }
-{
-    for u in part {
-        if *u == t {
-            return true;
-        }
-    }
-    false
-}
 
 // Whether a literal names one of n variables.
 fn in_range(n: u8, t: i32) -> bool
@@ -26,72 +16,67 @@ fn in_range(n: u8, t: i32) -> bool
 }
 
 impl Hand {
-    pub(crate) fn empty() -> Hand
-        ensures { (n : ℕ) → Holds n result [] }
+    pub(crate) fn empty(variables: u8) -> Hand
+        ensures { Holds variables result [] }
     {
         Hand {
-            kept: [0; 25],
-            len: 0,
-            bad: false,
+            variables,
+            clause: Ok(ArrayVec::new()),
         }
     }
 
     pub(crate) fn is_empty(&self) -> bool
         ensures { (n : ℕ) (ts : List ℤ) → Holds n self.now ts → Tells result (ts ≡ []) }
     {
-        self.len == 0
+        matches!(&self.clause, Ok(kept) if kept.is_empty())
     }
 
-    pub(crate) fn push(&mut self, n: u8, t: i32)
-        ensures { (ts : List ℤ) → Holds n self.old ts → Holds n self.new (ts ++ (t ∷ [])) }
+    // Adds a literal. One out of range is the decline, whatever came before.
+    #[tactic(auto, using(crate::proofs::Pushed::any_has))]
+    pub(crate) fn push(&mut self, t: i32)
+        ensures size { self.new.variables ≡ self.old.variables }
+        ensures joins { self.new.clause ≡ joined self.old.variables self.old.clause t }
     {
-        self.bad = self.bad | !in_range(n, t);
-        let k = self.len;
-        if k > MOST_DIFFERENT {
+        if !in_range(self.variables, t) {
+            self.clause = Err(Decline::BadLiteral);
             return;
         }
-        if held(&self.kept[0..k], t) {
+        let Ok(kept) = &mut self.clause else {
+            return;
+        };
+        if kept.contains(&t) {
             return;
         }
-        self.kept[k] = t;
-        self.len = k + 1;
+        if kept.is_full() {
+            self.clause = Err(Decline::WideClause);
+        } else {
+            kept.push(t);
+        }
     }
 }
 
-// Enters the clause in hand after the others, or says why not.
-pub(crate) fn append(
-    n: u8,
-    lits: &mut [i32; 8000],
-    ends: &mut [u16; 1000],
-    counts: Counts,
-    hand: &Hand,
-) -> Result<Counts, Decline>
-    requires { Sound n lits.old ends.old counts }
-    ensures { (ts : List ℤ) → Holds n hand.now ts → Appended n lits.old ends.old counts ts lits.new ends.new result }
-{
-    if n == 0 {
-        return Err(Decline::NotStarted);
+impl Tables {
+    // Enters the clause in hand after the others, or says why not.
+    pub(crate) fn append(&mut self, counts: Counts, hand: &Hand) -> Result<Counts, Decline>
+        ensures { (n : ℕ) (ts : List ℤ) → Sound n self.old counts → Holds n hand.now ts → Appended n self.old counts ts self.new result }
+    {
+        if hand.variables == 0 {
+            return Err(Decline::NotStarted);
+        }
+        let clause = hand.clause.as_ref().map_err(|decline| *decline)?;
+        if counts.clauses >= MOST_CLAUSES {
+            return Err(Decline::ClausesFull);
+        }
+        let from = counts.literals as usize;
+        let to = from + clause.len();
+        if to > MOST_LITERALS {
+            return Err(Decline::LiteralsFull);
+        }
+        self.lits[from..to].copy_from_slice(clause);
+        self.ends[counts.clauses as usize] = to as u16;
+        Ok(Counts {
+            clauses: counts.clauses + 1,
+            literals: to as u16,
+        })
     }
-    if hand.bad {
-        return Err(Decline::BadLiteral);
-    }
-    if hand.len > MOST_DIFFERENT {
-        return Err(Decline::WideClause);
-    }
-    if counts.clauses >= MOST_CLAUSES {
-        return Err(Decline::ClausesFull);
-    }
-    let from = counts.literals as usize;
-    let to = from + hand.len;
-    if to > MOST_LITERALS {
-        return Err(Decline::LiteralsFull);
-    }
-    for i in 0..hand.len {
-        lits[from + i] = hand.kept[i];
-    }
-    ends[counts.clauses as usize] = to as u16;
-    Ok(Counts {
-        clauses: counts.clauses + 1,
-        literals: to as u16,
-    })
 }

@@ -1,9 +1,8 @@
 // The station file: at most 1,000 clauses over at most 200 variables, and trials that can be taken back.
 #![tactic(auto)]
 
-ghost use Rattle.std.specs.Prelude.{◌≡◌, ◌≤◌, true, take};
-ghost use Rattle.model.specs.Machine.{every, names};
-ghost use Rattle.station.specs.Cuts.{rises, last_of};
+ghost use Rattle.std.specs.Prelude.{◌<◌, ◌≤◌};
+ghost use Rattle.station.specs.Tables.{Sound};
 
 pub mod calls;
 pub mod clients;
@@ -14,6 +13,8 @@ pub mod reading;
 mod tests;
 pub mod trials;
 
+use arrayvec::ArrayVec;
+use model::Decline;
 pub use trials::Slip;
 
 // The most that a file holds: variables, different literals in one clause, clauses, literals of all clauses, and trials.
@@ -25,7 +26,7 @@ pub const MOST_CLAUSES: u16 = 1000;
 
 pub const MOST_LITERALS: usize = 8000;
 
-pub const MOST_TRIALS: u8 = 8;
+pub const MOST_TRIALS: usize = 8;
 
 // How many clauses stand, and how many literals in all.
 #[derive(Clone, Copy)]
@@ -39,30 +40,38 @@ const NONE: Counts = Counts {
     literals: 0,
 };
 
-// The literals of all clauses stand in one array, clause after clause; `ends` says where each clause ends. A trial (a push/pop level) is
-// the number of clauses that stood when it was opened. Before any start there are 0 variables.
+// The literals of all clauses, clause after clause, and where each clause ends. They stay arrays beside their counts, and no vectors: the
+// guard of a reading borrows the counts and nothing else, as the project asks, so the tables are written while it holds what it puts back.
 #[derive(Drop)]
-pub struct StationFile {
-    variables: u8,
-    number: u32,
+pub(crate) struct Tables {
     lits: [i32; 8000],
     ends: [u16; 1000],
-    marks: [u16; 8],
-    depth: u8,
-    counts: Counts,
-    ghost few_variables: { variables ≤ 200 },
-    ghost few_clauses: { counts.clauses ≤ 1000 },
-    ghost few_literals: { counts.literals ≤ 8000 },
-    ghost few_trials: { depth ≤ 8 },
-    ghost rising: { rises 0 (take counts.clauses ends) ≡ true },
-    ghost last: { last_of 0 (take counts.clauses ends) ≡ counts.literals },
-    ghost named: { every (names variables) (take counts.literals lits) ≡ true },
 }
 
-// What decides the entry of a clause, of however many literals: the first 25 different ones, and whether one was out of range.
+// A trial (a push/pop level) is the number of clauses that stood when it was opened.
+#[derive(Drop)]
+pub struct StationFile {
+    // 0 before any start, and no `Option`: `variables` answers this 0, and every test for a start would only turn a `None` back into it.
+    variables: u8,
+    number: u32,
+    tables: Tables,
+    counts: Counts,
+    marks: ArrayVec<u16, MOST_TRIALS>,
+    ghost few_variables: { variables ≤ 200 },
+    ghost sound: { Sound variables tables counts },
+}
+
+// A trial that stands: the number of its file, and its depth, from 1.
+#[derive(Clone, Copy)]
+pub(crate) struct Held {
+    file: u32,
+    depth: usize,
+    ghost standing: { 0 < depth },
+}
+
+// The clause in hand for a file of so many variables: its different literals, or why literals such as those are declined.
 #[derive(Drop)]
 pub(crate) struct Hand {
-    kept: [i32; 25],
-    len: usize,
-    bad: bool,
+    variables: u8,
+    clause: Result<ArrayVec<i32, MOST_DIFFERENT>, Decline>,
 }

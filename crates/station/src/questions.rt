@@ -18,21 +18,22 @@ impl StationFile {
         }
         let i = k as usize - 1;
         let from = self.start_of(i);
-        let to = self.ends[i] as usize;
-        Some(&self.lits[from..to])
+        let to = self.tables.ends[i] as usize;
+        Some(&self.tables.lits[from..to])
     }
 
     // Where the literals of the clause at place i begin.
     pub(crate) fn start_of(&self, i: usize) -> usize
         requires { i ≤ self.now.counts.clauses }
-        ensures { result ≡ start_of 0 (take self.now.counts.clauses self.now.ends) i }
+        ensures { result ≡ start_of 0 (take self.now.counts.clauses self.now.tables.ends) i }
     {
         if i == 0 {
             return 0;
         }
-        self.ends[i - 1] as usize
+        self.tables.ends[i - 1] as usize
     }
 
+    #[tactic(auto, unfolding(crate::specs::Views::machine, crate::specs::Views::machine_in))]
     pub fn variables(&self) -> u8
         ensures { result ≡ (machine self.now).variables }
     {
@@ -40,6 +41,7 @@ impl StationFile {
     }
 
     // How many clauses stand.
+    #[tactic(auto, using(crate::proofs::Files::count_is))]
     pub fn clauses(&self) -> u32
         ensures { result ≡ length (machine self.now).clauses }
     {

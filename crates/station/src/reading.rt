@@ -1,12 +1,11 @@
 // Reading a rule text into a file, all of its clauses or none.
-ghost use Rattle.std.specs.Prelude.{◌≡◌, List, ℤ, if◌then◌else◌};
+ghost use Rattle.std.specs.Prelude.{◌≡◌, unwrap_or};
 ghost use Rattle.model.specs.Reading.{Reads};
 ghost use Rattle.station.specs.Views.{machine};
-ghost use Rattle.station.specs.Hands.{Holds, Sound};
-ghost use Rattle.station.specs.Readings.{EnteredAt, Ended, ReadInto};
+ghost use Rattle.station.specs.Tables.{Sound};
+ghost use Rattle.station.specs.Readings.{Ended, ReadInto};
 
-use super::entering::append;
-use super::{Counts, Hand, StationFile};
+use super::{Counts, Hand, StationFile, Tables};
 use model::{Decline, FileFault, ReadFault, TextFault};
 use texts::Reader;
 
@@ -16,43 +15,23 @@ const NEVER_STARTED: FileFault = FileFault {
     decline: Decline::NotStarted,
 };
 
-// Puts the counts back as they were, unless the text was accepted.
+// Puts the counts back as they were saved, unless the text was accepted.
 struct Guard<'a> {
     counts: &'a mut Counts,
-    saved: Counts,
-    accepted: bool,
+    saved: Option<Counts>,
 }
 
 impl Drop for Guard<'_> {
     fn drop(self)
-        ensures { self.exit.0.now ≡ (if self.entry.accepted then self.entry.counts.now else self.entry.saved) }
+        ensures { self.exit.0.now ≡ unwrap_or self.entry.saved self.entry.counts.now }
     {
-        if !self.accepted {
-            *self.counts = self.saved;
+        if let Some(saved) = self.saved {
+            *self.counts = saved;
         }
         let Guard {
             counts: _,
             saved: _,
-            accepted: _,
         } = self;
-    }
-}
-
-// Enters the clause in hand, whose 0 stands at a place, or says why not.
-fn entered_at(
-    place: usize,
-    n: u8,
-    lits: &mut [i32; 8000],
-    ends: &mut [u16; 1000],
-    counts: Counts,
-    hand: &Hand,
-) -> Result<Counts, FileFault>
-    requires { Sound n lits.old ends.old counts }
-    ensures { (ts : List ℤ) → Holds n hand.now ts → EnteredAt place n lits.old ends.old counts ts lits.new ends.new result }
-{
-    match append(n, lits, ends, counts, hand) {
-        Ok(more) => Ok(more),
-        Err(decline) => Err(FileFault { place, decline }),
     }
 }
 
@@ -66,44 +45,37 @@ fn ended(declared: u32, done: u32, hand: &Hand, size: usize) -> Result<(), TextF
     Ok(())
 }
 
-// Reads a text into the parts of a file of n variables.
-fn read_into(
-    n: u8,
-    lits: &mut [i32; 8000],
-    ends: &mut [u16; 1000],
-    counts: &mut Counts,
-    text: &[u8],
-) -> Result<u32, ReadFault>
-    requires { Sound n lits.old ends.old counts.old }
-    ensures sound { Sound n lits.new ends.new counts.new }
-    ensures reads { ReadInto n lits.old ends.old counts.old text.now lits.new ends.new counts.new result }
+// Reads a text into the tables of a file of n variables.
+fn read_into(n: u8, tables: &mut Tables, counts: &mut Counts, text: &[u8]) -> Result<u32, ReadFault>
+    requires { Sound n tables.old counts.old }
+    ensures sound { Sound n tables.new counts.new }
+    ensures reads { ReadInto n tables.old counts.old text.now tables.new counts.new result }
 {
     if n == 0 {
         return Err(ReadFault::InFile(NEVER_STARTED));
     }
-    let saved = *counts;
-    let mut guard = Guard {
-        counts,
-        saved,
-        accepted: false,
-    };
+    let saved = Some(*counts);
+    let mut guard = Guard { counts, saved };
     let mut reader = Reader::over(text);
     let Some(declared) = reader.heading(n as u32)? else {
         return Err(ReadFault::InText(TextFault::Problem(text.len())));
     };
     let mut done: u32 = 0;
-    let mut hand = Hand::empty();
+    let mut hand = Hand::empty(n);
     while let Some(t) = reader.number()? {
         if t.value == 0 {
-            *guard.counts = entered_at(t.place, n, lits, ends, *guard.counts, &hand)?;
+            let place = t.place;
+            *guard.counts = tables
+                .append(*guard.counts, &hand)
+                .map_err(|decline| FileFault { place, decline })?;
             done += 1;
-            hand = Hand::empty();
+            hand = Hand::empty(n);
         } else {
-            hand.push(n, t.value);
+            hand.push(t.value);
         }
     }
     ended(declared, done, &hand, text.len())?;
-    guard.accepted = true;
+    guard.saved = None;
     Ok(done)
 }
 
@@ -112,15 +84,6 @@ impl StationFile {
     pub fn read(&mut self, text: &[u8]) -> Result<u32, ReadFault>
         ensures { Reads (machine self.old) text.now (machine self.new) result }
     {
-        let StationFile {
-            variables,
-            number: _,
-            lits,
-            ends,
-            marks: _,
-            depth: _,
-            counts,
-        } = self;
-        read_into(*variables, lits, ends, counts, text)
+        read_into(self.variables, &mut self.tables, &mut self.counts, text)
     }
 }

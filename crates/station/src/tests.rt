@@ -13,8 +13,8 @@ fn started(variables: u32) -> StationFile {
 // The literals 1 to 25.
 fn counted() -> [i32; 25] {
     let mut literals = [0; 25];
-    for i in 0..25 {
-        literals[i] = i as i32 + 1;
+    for (t, k) in literals.iter_mut().zip(1..) {
+        *t = k;
     }
     literals
 }

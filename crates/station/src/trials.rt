@@ -3,27 +3,27 @@ ghost use Rattle.std.specs.Prelude.{◌≡◌};
 ghost use Rattle.model.specs.Machine.{blank, is_blank, Opens, Closes};
 ghost use Rattle.station.specs.Views.{machine, slip_state, cut_to};
 
-use super::{Counts, MOST_TRIALS, StationFile};
+use super::{Counts, Held, StationFile};
 use model::Decline;
 
-// What a caller holds for a trial that it opened: the number of the file and the trial's depth, or nothing at depth 0. It cannot be copied, and
-// may be let go only when it is blank.
+// What a caller holds for a trial that it opened; a blank slip holds none. It cannot be copied, and may be let go only when it is blank.
 pub struct Slip {
-    file: u32,
-    depth: u8,
+    held: Option<Held>,
 }
 
 impl Slip {
+    #[tactic(auto, unfolding(crate::specs::Views::slip_state, crate::specs::Views::state_of))]
     pub fn blank() -> Slip
         ensures { slip_state result ≡ blank }
     {
-        Slip { file: 0, depth: 0 }
+        Slip { held: None }
     }
 
+    #[tactic(auto, unfolding(crate::specs::Views::slip_state, crate::specs::Views::state_of))]
     pub fn is_blank(&self) -> bool
         ensures { result ≡ is_blank (slip_state self.now) }
     {
-        self.depth == 0
+        self.held.is_none()
     }
 }
 
@@ -32,51 +32,53 @@ impl Drop for Slip {
     fn drop(self)
         requires { slip_state self ≡ blank }
     {
-        let Slip { file: _, depth: _ } = self;
+        let Slip { held: _ } = self;
     }
 }
 
 impl StationFile {
     // Opens a trial, and fills the slip with the file's number and the trial's depth.
+    #[tactic(auto, using(crate::proofs::Files::count_is), unfolding(crate::specs::Views::machine, crate::specs::Views::machine_in, crate::specs::Views::slip_state, crate::specs::Views::state_of))]
     pub fn open(&mut self, slip: &mut Slip) -> Result<(), Decline>
         ensures { Opens (machine self.old) (slip_state slip.old) (machine self.new) (slip_state slip.new) result }
     {
         if self.variables == 0 {
             return Err(Decline::NotStarted);
         }
-        if slip.depth != 0 {
+        if !slip.is_blank() {
             return Err(Decline::SlipFilled);
         }
-        if self.depth >= MOST_TRIALS {
+        if self.marks.is_full() {
             return Err(Decline::TrialsFull);
         }
-        self.marks[self.depth as usize] = self.counts.clauses;
-        self.depth += 1;
-        slip.file = self.number;
-        slip.depth = self.depth;
+        self.marks.push(self.counts.clauses);
+        slip.held = Some(Held {
+            file: self.number,
+            depth: self.marks.len(),
+        });
         Ok(())
     }
 
     // Closes the latest trial, drops the clauses entered since its opening, and makes its slip blank.
+    #[tactic(auto, unfolding(crate::specs::Views::machine, crate::specs::Views::machine_in, crate::specs::Views::slip_state, crate::specs::Views::state_of))]
     pub fn close(&mut self, slip: &mut Slip) -> Result<(), Decline>
         ensures { Closes (machine self.old) (slip_state slip.old) (machine self.new) (slip_state slip.new) result }
     {
         if self.variables == 0 {
             return Err(Decline::NotStarted);
         }
-        if slip.depth == 0 {
+        let Some(held) = slip.held else {
             return Err(Decline::SlipBlank);
-        }
-        if slip.file != self.number {
+        };
+        if held.file != self.number {
             return Err(Decline::OtherFile);
         }
-        if slip.depth != self.depth {
+        if held.depth != self.marks.len() {
             return Err(Decline::NotLatest);
         }
-        self.depth -= 1;
-        self.cut(self.marks[self.depth as usize]);
-        slip.file = 0;
-        slip.depth = 0;
+        let kept = self.marks.pop().unwrap();
+        self.cut(kept);
+        slip.held = None;
         Ok(())
     }
 

@@ -1,4 +1,4 @@
-use Rattle.std.proofs.Common.{◌≡◌, length, sym, ap, rules}
+use Rattle.std.proofs.Common.{sym, ap}
 use Rattle.station.specs.Cuts.{start_of}
 use Rattle.station.proofs.Files.{ends_of, start_before}
 use Rattle.station.proofs.StationFile.start_of.Goals as goal
@@ -10,5 +10,4 @@ returns-then-i-eq0 c = sym (ap (start_of 0 (ends_of c.args.self.now)) c.if-i-eq0
 pub returns : goal.returns
 returns c =
     let f = c.args.self.now in
-    let tall : length f.ends ≡ 1000 = search rules in
-    start_before f tall c.args.i c.if-i-eq0.false c.requires
+    start_before f c.args.i c.if-i-eq0.false c.requires

@@ -1,11 +1,17 @@
-use Rattle.std.proofs.Common.{◌≡◌, ◌≢◌, [], ◌∷◌, ◌++◌, pos, Ok, Err, sym, refl, ap, ◌∙◌, w32, SFits, to_z, of_z, rules}
+use Rattle.std.proofs.Common.{◌≡◌, ◌≢◌, pos, Ok, Err, subst, sym, refl, ap, ◌∙◌, w32, SFits, to_z, of_z, rules}
 use Rattle.std.proofs.lemmas.Result.{err_from_is_err_and}
 use Rattle.std.proofs.lemmas.Int.{to_z-of_z}
+use Rattle.model.specs.declared.Decline.{Decline}
+use Rattle.model.specs.declared.FileFault.{FileFault}
 use Rattle.texts.specs.Scan.{rest_of}
 use Rattle.texts.proofs.Course.{not_started}
 use Rattle.station.specs.Views.{machine_in}
-use Rattle.station.specs.Hands.{Holds}
-use Rattle.station.proofs.Fronts.{fronts_none, fronts_same}
+use Rattle.station.specs.declared.Tables.{Tables}
+use Rattle.station.specs.Tables.{Sound}
+use Rattle.station.specs.Hands.{Fronts}
+use Rattle.station.proofs.Fronts.{fronts_none}
+use Rattle.station.proofs.Passed.{ok_before, err_before}
+use Rattle.station.proofs.Pushed.{holds_push}
 use Rattle.station.proofs.Going.{heading_fault, heading_none, heading_on, number_fault, at_end, shorter, zero_refused, zero_added, literal_held, undone, undone_sound, done_sound, done_all}
 use Rattle.station.proofs.reading.read_into.Goals as goal
 
@@ -16,73 +22,75 @@ returns-then-n-eq0 c = record { sound = c.requires; reads = λ number trials. (n
 pub returns-in_err-declared : goal.returns-in_err-declared
 returns-in_err-declared c =
     let p = err_from_is_err_and c.from_residual.result c.from_residual.ensures.1 in
-    let e = heading_fault c.args.n c.args.text.now c.args.lits.now c.args.ends.now c.args.counts.now c.if-n-eq0.false _ (rest_of c.heading.new.self) c.over-reader.ensures.all _ c.in_err-declared.ensures.heads in
-    let f = fronts_none c.args.counts.now c.args.lits.now c.args.ends.now in
-    record { sound = undone_sound _ _ _ _ _ _ _ c.requires f _ (search rules); reads = rw (p.1, p.2) (undone _ _ _ _ _ _ _ c.requires f _ c.args.text.now _ e (search rules)) }
+    let e = heading_fault c.args.n c.args.text.now c.args.tables.now c.args.counts.now c.if-n-eq0.false _ (rest_of c.heading.new.self) c.over-reader.ensures.all _ c.in_err-declared.ensures.heads in
+    let f = fronts_none c.args.counts.now c.args.tables.now in
+    record { sound = undone_sound _ _ _ _ _ c.requires c.requires f _ (search rules); reads = rw (p.1, p.2) (undone _ _ _ _ _ c.requires c.requires f _ c.args.text.now _ e (search rules)) }
 
 pub returns-in_default : goal.returns-in_default
 returns-in_default c =
-    let e = heading_none c.args.n c.args.text.now c.args.lits.now c.args.ends.now c.args.counts.now c.if-n-eq0.false _ (rest_of c.heading.new.self) c.over-reader.ensures.all _ c.in_ok-declared.ensures.heads c.in_default.is in
-    let f = fronts_none c.args.counts.now c.args.lits.now c.args.ends.now in
-    record { sound = undone_sound _ _ _ _ _ _ _ c.requires f _ (search rules); reads = undone _ _ _ _ _ _ _ c.requires f _ c.args.text.now _ e (search rules) }
+    let e = heading_none c.args.n c.args.text.now c.args.tables.now c.args.counts.now c.if-n-eq0.false _ (rest_of c.heading.new.self) c.over-reader.ensures.all _ c.in_ok-declared.ensures.heads c.in_default.is in
+    let f = fronts_none c.args.counts.now c.args.tables.now in
+    record { sound = undone_sound _ _ _ _ _ c.requires c.requires f _ (search rules); reads = undone _ _ _ _ _ c.requires c.requires f _ c.args.text.now _ e (search rules) }
 
 pub loop-t-init : goal.loop-t-init
 loop-t-init c =
-    (refl, refl, refl, heading_on c.args.n c.args.text.now c.args.lits.now c.args.ends.now c.args.counts.now c.if-n-eq0.false _ (rest_of c.heading.new.self) c.over-reader.ensures.all _ c.in_ok-declared.ensures.heads c.in-Some.declared c.in-Some.is c.requires c.empty-hand.result (c.empty-hand.ensures c.args.n))
+    (refl, refl, heading_on c.args.n c.args.text.now c.args.tables.now c.args.counts.now c.if-n-eq0.false _ (rest_of c.heading.new.self) c.over-reader.ensures.all _ c.in_ok-declared.ensures.heads c.in-Some.declared c.in-Some.is c.requires c.empty-hand.result c.empty-hand.ensures)
 
 pub returns-in_err-t : goal.returns-in_err-t
 returns-in_err-t c =
-    let g = c.loop-t.invariant.3 in
+    let g = c.loop-t.invariant.2 in
     let p = err_from_is_err_and c.from_residual-in_err-t.result c.from_residual-in_err-t.ensures.1 in
-    let e = number_fault _ _ _ _ _ _ _ _ _ _ _ _ g (rest_of c.number.new.self) _ c.in_err-t.ensures.counts in
-    record { sound = undone_sound _ _ _ _ _ _ _ c.requires g.fronts _ (search rules); reads = rw (p.1, p.2) (undone _ _ _ _ _ _ _ c.requires g.fronts _ c.args.text.now _ e (search rules)) }
+    let e = number_fault _ _ _ _ _ _ _ _ _ _ g (rest_of c.number.new.self) _ c.in_err-t.ensures.counts in
+    record { sound = undone_sound _ _ _ _ _ c.requires g.sound g.fronts _ (search rules); reads = rw (p.1, p.2) (undone _ _ _ _ _ c.requires g.sound g.fronts _ c.args.text.now _ e (search rules)) }
 
 pub returns-in_err-guard : goal.returns-in_err-guard
 returns-in_err-guard c =
-    let g = c.loop-t.invariant.3 in
+    let g = c.loop-t.invariant.2 in
     let t = c.in-Some-2.t.value in
     let fit : SFits w32 t = search rules in
     let z : t ≡ pos 0 = sym (to_z-of_z w32 t fit) ∙ ap (to_z w32) c.if-t-eq0.true in
     let p = err_from_is_err_and c.from_residual-in_err-guard.result c.from_residual-in_err-guard.ensures.1 in
-    let r = c.in_err-guard.ensures g.ts g.holds in
-    let e = zero_refused _ _ _ _ _ _ _ _ _ _ _ _ g (rest_of c.number.new.self) _ c.in_ok-t.ensures.counts c.in-Some-2.t c.in-Some-2.is z _ c.entered_at.new.lits c.entered_at.new.ends r in
-    let f = fronts_same _ _ _ _ _ _ _ _ r.1.same_lits r.1.same_ends g.fronts in
-    record { sound = undone_sound _ _ _ _ _ _ _ c.requires f _ (search rules); reads = rw (p.1, p.2) (undone _ _ _ _ _ _ _ c.requires f _ c.args.text.now _ e (search rules)) }
+    let w = err_before _ (λ (d : Decline). let f : FileFault = record { place = c.in-Some-2.t.place; decline = d } in f) (λ d f q. search rules) c.append.result c.map_err.result c.map_err.ensures.cases _ c.in_err-guard.was in
+    let r = rw w.1 at (c.append.ensures c.args.n g.ts g.sound g.holds) in
+    let e = zero_refused _ _ _ _ _ _ _ _ _ _ g (rest_of c.number.new.self) _ c.in_ok-t.ensures.counts c.in-Some-2.t c.in-Some-2.is z w.0 c.append.new.self r in
+    let s = subst (λ (x : Tables). Sound c.args.n x c.loop-t.guard.counts.now) (sym r.same) g.sound in
+    let f = subst (λ (x : Tables). Fronts c.args.counts.now c.args.tables.now x c.loop-t.guard.counts.now) (sym r.same) g.fronts in
+    record { sound = undone_sound _ _ _ _ _ c.requires s f _ (search rules); reads = rw (p.1, p.2, w.2) (undone _ _ _ _ _ c.requires s f _ c.args.text.now _ e (search rules)) }
 
 pub loop-t-smaller-then-t-eq0 : goal.loop-t-smaller-then-t-eq0
-loop-t-smaller-then-t-eq0 c = shorter _ _ _ _ _ _ _ _ _ _ _ _ c.loop-t.invariant.3 (rest_of c.number.new.self) _ c.in_ok-t.ensures.counts c.in-Some-2.t c.in-Some-2.is
+loop-t-smaller-then-t-eq0 c = shorter _ _ _ _ _ _ _ _ _ _ c.loop-t.invariant.2 (rest_of c.number.new.self) _ c.in_ok-t.ensures.counts c.in-Some-2.t c.in-Some-2.is
 
 pub loop-t-preserved-then-t-eq0 : goal.loop-t-preserved-then-t-eq0
 loop-t-preserved-then-t-eq0 c =
-    let g = c.loop-t.invariant.3 in
+    let g = c.loop-t.invariant.2 in
     let t = c.in-Some-2.t.value in
     let fit : SFits w32 t = search rules in
     let z : t ≡ pos 0 = sym (to_z-of_z w32 t fit) ∙ ap (to_z w32) c.if-t-eq0.true in
-    let a = c.in_ok-guard.ensures g.ts g.holds in
-    (refl, refl, refl, zero_added _ _ _ _ _ _ _ _ _ _ _ _ g (rest_of c.number.new.self) _ c.in_ok-t.ensures.counts c.in-Some-2.t c.in-Some-2.is z _ _ _ a _ (c.empty-hand-then-t-eq0.ensures c.args.n))
+    let a = rw (ok_before _ c.append.result c.map_err.result c.map_err.ensures.cases _ c.in_ok-guard.was) at (c.append.ensures c.args.n g.ts g.sound g.holds) in
+    (refl, refl, zero_added _ _ _ _ _ _ _ _ _ _ g (rest_of c.number.new.self) _ c.in_ok-t.ensures.counts c.in-Some-2.t c.in-Some-2.is z _ _ a _ c.empty-hand-then-t-eq0.ensures)
 
 pub loop-t-smaller : goal.loop-t-smaller
-loop-t-smaller c = shorter _ _ _ _ _ _ _ _ _ _ _ _ c.loop-t.invariant.3 (rest_of c.number.new.self) _ c.in_ok-t.ensures.counts c.in-Some-2.t c.in-Some-2.is
+loop-t-smaller c = shorter _ _ _ _ _ _ _ _ _ _ c.loop-t.invariant.2 (rest_of c.number.new.self) _ c.in_ok-t.ensures.counts c.in-Some-2.t c.in-Some-2.is
 
 pub loop-t-preserved : goal.loop-t-preserved
 loop-t-preserved c =
-    let g = c.loop-t.invariant.3 in
+    let g = c.loop-t.invariant.2 in
     let t = c.in-Some-2.t.value in
     let fit : SFits w32 t = search rules in
     let z : t ≢ pos 0 = λ e. c.if-t-eq0.false (ap (of_z w32) e) in
-    let h : Holds c.args.n c.push.new.self (g.ts ++ (t ∷ [])) = simp to_z-of_z at (c.push.ensures g.ts g.holds) in
-    (refl, refl, refl, literal_held _ _ _ _ _ _ _ _ _ _ _ _ g (rest_of c.number.new.self) _ c.in_ok-t.ensures.counts c.in-Some-2.t c.in-Some-2.is z _ h)
+    let h = holds_push c.args.n g.ts t c.loop-t.hand c.push.new.self g.holds c.push.ensures.size (simp to_z-of_z at c.push.ensures.joins) in
+    (refl, refl, literal_held _ _ _ _ _ _ _ _ _ _ g (rest_of c.number.new.self) _ c.in_ok-t.ensures.counts c.in-Some-2.t c.in-Some-2.is z _ h)
 
 pub returns-in_err-ended : goal.returns-in_err-ended
 returns-in_err-ended c =
-    let g = c.loop-t.invariant.3 in
+    let g = c.loop-t.invariant.2 in
     let p = err_from_is_err_and c.from_residual-in_err-ended.result c.from_residual-in_err-ended.ensures.1 in
-    let e = at_end _ _ _ _ _ _ _ _ _ _ _ _ g (rest_of c.number.new.self) _ c.in_ok-t.ensures.counts c.in_default-2.is (Err _) c.in_err-ended.ensures in
-    record { sound = undone_sound _ _ _ _ _ _ _ c.requires g.fronts _ (search rules); reads = rw (p.1, p.2) (undone _ _ _ _ _ _ _ c.requires g.fronts _ c.args.text.now _ e (search rules)) }
+    let e = at_end _ _ _ _ _ _ _ _ _ _ g (rest_of c.number.new.self) _ c.in_ok-t.ensures.counts c.in_default-2.is (Err _) c.in_err-ended.ensures in
+    record { sound = undone_sound _ _ _ _ _ c.requires g.sound g.fronts _ (search rules); reads = rw (p.1, p.2) (undone _ _ _ _ _ c.requires g.sound g.fronts _ c.args.text.now _ e (search rules)) }
 
 pub returns : goal.returns
 returns c =
-    let g = c.loop-t.invariant.3 in
-    let e = at_end _ _ _ _ _ _ _ _ _ _ _ _ g (rest_of c.number.new.self) _ c.in_ok-t.ensures.counts c.in_default-2.is (Ok tt) c.in_ok-ended.ensures in
+    let g = c.loop-t.invariant.2 in
+    let e = at_end _ _ _ _ _ _ _ _ _ _ g (rest_of c.number.new.self) _ c.in_ok-t.ensures.counts c.in_default-2.is (Ok tt) c.in_ok-ended.ensures in
     let k = c.loop-t.guard.counts.now in
-    record { sound = done_sound _ _ _ k _ g.sound (search rules); reads = done_all _ _ _ k _ _ _ e (search rules) }
+    record { sound = done_sound _ _ k _ g.sound (search rules); reads = done_all _ _ k _ _ _ e (search rules) }
