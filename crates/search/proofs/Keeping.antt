@@ -1,5 +1,5 @@
 -- What every move of the search keeps.
-use Rattle.std.proofs.Common.{◌≡◌, Result, refl, ap, ◌∙◌, subst, arith}
+use Rattle.std.proofs.Common.{◌≡◌, Option, Result, refl, ap, ◌∙◌, subst, arith}
 use Rattle.model.specs.declared.Decline.{Decline}
 use Rattle.model.specs.Machine.{Machine}
 use Rattle.model.specs.Settling.{RecordMeaning}
@@ -9,7 +9,7 @@ use Rattle.search.specs.declared.Mark.{Mark}
 use Rattle.search.specs.declared.Frame.{Frame}
 use Rattle.search.specs.Stacks.{places_of, Sound}
 use Rattle.search.specs.declared.Turn.{Turn}
-use Rattle.search.specs.declared.Next.{Next}
+use Rattle.model.specs.declared.Answer.{Answer}
 use Rattle.search.specs.States.{Position, Run, Room, Kept, Going, Stuck, Stepped, Advanced}
 
 pub kept_join : {a b c : State} → Kept a b → Kept b c → Kept a c
@@ -44,6 +44,7 @@ stepped_there m m' e run rec rec' p p' f f' r r' q h s =
     subst (λ (x : Result Turn Decline). Stepped run m p rec' p' f' x) q (subst (λ (k : Machine). Stuck run k rec p f → Stepped run k p rec' p' f' r) e h s)
 
 -- a turn of the search likewise
-pub advanced_there : (m m' : Machine) → m' ≡ m → (run : Run) (rec rec' : RecordMeaning) (p p' : Position) (r : Result Next Decline)
-    → (Going run m' rec p → Advanced run m' p rec' p' r) → Going run m rec p → Advanced run m p rec' p' r
-advanced_there m m' e run rec rec' p p' r h = subst (λ (k : Machine). Going run k rec p → Advanced run k p rec' p' r) e h
+pub advanced_there : (m m' : Machine) → m' ≡ m → (run : Run) (rec rec' : RecordMeaning) (p p' : Position) (r r' : Result (Option Answer) Decline) → r ≡ r'
+    → (Going run m' rec p → Advanced run m' p rec' p' r) → Going run m rec p → Advanced run m p rec' p' r'
+advanced_there m m' e run rec rec' p p' r r' q h s =
+    subst (λ (x : Result (Option Answer) Decline). Advanced run m p rec' p' x) q (subst (λ (k : Machine). Going run k rec p → Advanced run k p rec' p' r) e h s)

@@ -3,7 +3,7 @@ use Rattle.std.specs.Prelude.{◌≡◌, ℕ, suc, ◌+◌, ◌-◌, ◌^◌, �
 use Rattle.model.specs.declared.Step.{Step}
 use Rattle.model.specs.declared.Reference.TheVariants.{S}
 use Rattle.model.specs.declared.Answer.{Answer}
-use Rattle.model.specs.declared.Answer.TheVariants.{Fits as AllTrue, Cannot}
+use Rattle.model.specs.declared.Answer.TheVariants.{Fits, Cannot}
 use Rattle.model.specs.declared.Decline.{Decline}
 use Rattle.model.specs.declared.Decline.TheVariants.{RecordFull}
 use Rattle.model.specs.Clauses.{Clause, on, off, opposite}
@@ -21,8 +21,6 @@ use Rattle.search.specs.declared.Frame.{Frame}
 use Rattle.search.specs.declared.State.{State}
 use Rattle.search.specs.declared.Turn.{Turn}
 use Rattle.search.specs.declared.Turn.TheVariants.{Failing, Turned}
-use Rattle.search.specs.declared.Next.{Next}
-use Rattle.search.specs.declared.Next.TheVariants.{Again, Fits, Refuted}
 use Rattle.search.specs.Stacks.{items, places_of, Sound}
 
 -- where the search stands: the setting, the trail and the frames from the lowest, and the steps made
@@ -158,17 +156,20 @@ Unwound run m p rec' p' f' (Ok Failing) = Stuck run m rec' p' f' × (length p'.m
 Unwound run m p rec' p' f' (Ok Turned) = Going run m rec' p' × (weight m.variables p'.marks ≤ heavy m.variables 0 p.marks)
 Unwound run m p rec' p' f' (Err d) = Halted run m rec' × (d ≡ RecordFull)
 
+-- the search has ended with this answer
+abbrev pub Answered : Run → Machine → RecordMeaning → Position → Answer → Type 0
+Answered run m rec' p' Fits = Ended run m rec' (fits p'.settings) × (length p'.settings ≡ m.variables)
+Answered run m rec' p' (Cannot r) = (D : Clause) × Ended run m rec' (fails r D)
+
 -- one turn of the search
-abbrev pub Advanced : Run → Machine → Position → RecordMeaning → Position → Result Next Decline → Type 0
-Advanced run m p rec' p' (Ok Again) = Going run m rec' p' × (weight m.variables p'.marks < weight m.variables p.marks)
-Advanced run m p rec' p' (Ok Fits) = Ended run m rec' (fits p'.settings) × (length p'.settings ≡ m.variables)
-Advanced run m p rec' p' (Ok (Refuted r)) = (D : Clause) × Ended run m rec' (fails r D)
+abbrev pub Advanced : Run → Machine → Position → RecordMeaning → Position → Result (Option Answer) Decline → Type 0
+Advanced run m p rec' p' (Ok None) = Going run m rec' p' × (weight m.variables p'.marks < weight m.variables p.marks)
+Advanced run m p rec' p' (Ok (Some a)) = Answered run m rec' p' a
 Advanced run m p rec' p' (Err d) = Halted run m rec' × (d ≡ RecordFull)
 
 -- the whole search was run
 abbrev pub Ran : Run → Machine → RecordMeaning → Position → Result Answer Decline → Type 0
-Ran run m rec' p' (Ok AllTrue) = Ended run m rec' (fits p'.settings) × (length p'.settings ≡ m.variables)
-Ran run m rec' p' (Ok (Cannot r)) = (D : Clause) × Ended run m rec' (fails r D)
+Ran run m rec' p' (Ok a) = Answered run m rec' p' a
 Ran run m rec' p' (Err d) = Halted run m rec' × (d ≡ RecordFull)
 
 -- the checks of a call: nothing is refused, or this is the first refusal

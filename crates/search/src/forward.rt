@@ -7,7 +7,7 @@ ghost use Rattle.scan.specs.Tests.{Settings, Scanned};
 ghost use Rattle.search.specs.States.{position, machine_of, Room, Kept, Run, Going, Advanced, Ran};
 
 use super::moves::frame_of;
-use super::{Next, State, Turn, Why};
+use super::{State, Turn, Why};
 use clauses::Literal;
 use model::{Answer, Decline};
 use orders::Order;
@@ -42,7 +42,7 @@ impl State<'_, '_, '_, '_> {
     }
 
     // Goes back from a setting at which the clause numbered k is false.
-    fn clash<R: Record>(&mut self, record: &mut R, k: u32) -> Result<Next, Decline>
+    fn clash<R: Record>(&mut self, record: &mut R, k: u32) -> Result<Option<Answer>, Decline>
         requires room { Room self.old }
         requires first { (C : Clause) × First (AllFalse (position self.old).settings) (machine_of self.old).clauses k C }
         requires going { (run : Run) × Going run (machine_of self.old) (R.Record.meaning «record».old) (position self.old) }
@@ -53,12 +53,17 @@ impl State<'_, '_, '_, '_> {
     {
         let mut failure = frame_of(self.file, k);
         match self.unwind(record, &mut failure)? {
-            Turn::Turned => Ok(Next::Again),
-            Turn::Failing => Ok(Next::Refuted(failure.by)),
+            Turn::Turned => Ok(None),
+            Turn::Failing => Ok(Some(Answer::Cannot(failure.by))),
         }
     }
 
-    fn advance<O: Order, R: Record>(&mut self, order: &O, record: &mut R) -> Result<Next, Decline>
+    // One turn, and the answer if the search ends with it.
+    fn advance<O: Order, R: Record>(
+        &mut self,
+        order: &O,
+        record: &mut R,
+    ) -> Result<Option<Answer>, Decline>
         requires room { Room self.old }
         requires size { (O.Order.meaning order.now).size ≡ (machine_of self.old).variables }
         requires going { (run : Run) × Going run (machine_of self.old) (R.Record.meaning «record».old) (position self.old) }
@@ -71,13 +76,13 @@ impl State<'_, '_, '_, '_> {
             Scan::Conflict(k) => self.clash(record, k),
             Scan::Forced(k, t) => {
                 self.set(t, Why::Clause(k));
-                Ok(Next::Again)
+                Ok(None)
             }
-            Scan::Satisfied => Ok(Next::Fits),
+            Scan::Satisfied => Ok(Some(Answer::Fits)),
             Scan::Undecided => {
                 let t = self.chosen(order);
                 self.set(t, Why::On);
-                Ok(Next::Again)
+                Ok(None)
             }
         }
     }
@@ -96,10 +101,8 @@ impl State<'_, '_, '_, '_> {
             → Ran run (machine_of self.old) (R.Record.meaning «record».new) (position self.new) result }
     {
         loop {
-            match self.advance(order, record)? {
-                Next::Again => {}
-                Next::Fits => return Ok(Answer::Fits),
-                Next::Refuted(by) => return Ok(Answer::Cannot(by)),
+            if let Some(answer) = self.advance(order, record)? {
+                return Ok(answer);
             }
         }
     }

@@ -57,11 +57,3 @@ enum Turn {
     Failing,
     Turned,
 }
-
-// One turn of the search: it goes on, it fits, or it failed with nothing set.
-#[derive(Clone, Copy)]
-enum Next {
-    Again,
-    Fits,
-    Refuted(Reference),
-}
