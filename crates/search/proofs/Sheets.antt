@@ -1,9 +1,9 @@
 -- The sheet, and what settling says of the search's end.
 use Rattle.std.proofs.Common.{◌≡◌, ℕ, zero, suc, ◌+◌, ◌-◌, ◌<◌, ◌≤◌, Bool, true, false, cond, eqb, leb, List, [], ◌∷◌, ◌++◌, map, length, get_or, take, drop, set, replicate, Some, None, Ok, Err, Option, Result, sym, refl, ap, ◌∙◌, subst, append_assoc, add-one, arith, length-append, leb-true}
 use borrow.Author.Tests.{lt-leb}
+use mir.Val.{bool_byte}
 use Rattle.std.proofs.lemmas.Bool.{eqb-true, eq-eqb, not-false}
 use Rattle.model.proofs.Merging.{both}
-use Rattle.std.proofs.lemmas.List.{take_all}
 use Rattle.model.specs.declared.Step.{Step}
 use Rattle.model.specs.declared.Answer.{Answer}
 use Rattle.model.specs.declared.Answer.TheVariants.{Fits, Cannot}
@@ -26,11 +26,14 @@ more (b ∷ σ) [] i h k = absurd (omega arith)
 more (b ∷ σ) (x ∷ sheet) zero h k = refl
 more (b ∷ σ) (x ∷ sheet) (suc i) h k = ap (λ (l : List ℕ). byte b ∷ l) (more σ sheet i (omega arith) (omega arith))
 
-pub written_more : (σ sheet : List ℕ) (i : ℕ) → i < length σ → i < length sheet → set (map byte (take i σ) ++ drop i sheet) i (byte (get_or σ i 0)) ≡ map byte (take (i + 1) σ) ++ drop (i + 1) sheet
-written_more σ sheet i h k = rw add-one (more σ sheet i h k)
+bool_byte_cond : (b : Bool) → bool_byte b ≡ cond b 1 0
+bool_byte_cond true = refl
+bool_byte_cond false = refl
 
-pub written_all : (σ sheet now : List ℕ) (i : ℕ) → i ≡ length σ → now ≡ map byte (take i σ) ++ drop i sheet → now ≡ written σ sheet
-written_all σ sheet now i e h = h ∙ ap (λ (k : ℕ). map byte (take k σ) ++ drop k sheet) e ∙ ap (λ (l : List ℕ). map byte l ++ drop (length σ) sheet) (take_all (length σ) σ (omega arith))
+-- one place more is written
+pub written_more : (σ sheet now : List ℕ) (i b : ℕ) → i < length σ → length σ ≤ length sheet → now ≡ map byte (take i σ) ++ drop i sheet → b ≡ bool_byte (eqb (get_or σ i 0) 1)
+    → set now i b ≡ map byte (take (i + 1) σ) ++ drop (i + 1) sheet
+written_more σ sheet now i b h k e q = rw (e, q, bool_byte_cond, add-one) (more σ sheet i h (omega arith))
 
 -- what is not refused
 

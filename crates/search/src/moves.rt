@@ -24,7 +24,7 @@ impl State<'_, '_, '_, '_> {
         ensures kept { Kept self.old self.new }
         ensures position { position self.new ≡ record { settings = make_true (position self.old).settings (code t); marks = (position self.old).marks ++ (record { literal = t; why = why } ∷ []); frames = (position self.old).frames; made = (position self.old).made } }
     {
-        self.settings[t.index()] = if t.is_on() { 1 } else { 0 };
+        self.settings[t.index()] = u8::from(t.is_on());
         self.trail.push(Mark { literal: t, why });
     }
 
@@ -85,19 +85,15 @@ fn step_on(t: Literal, setter: Reference, failed: Reference) -> Step
     requires { t.index < 255 }
     ensures { result ≡ made_of (code t) setter failed }
 {
-    let variable = t.index() as u8 + 1;
-    if t.is_on() {
-        Step {
-            left: setter,
-            right: failed,
-            variable,
-        }
+    let (left, right) = if t.is_on() {
+        (setter, failed)
     } else {
-        Step {
-            left: failed,
-            right: setter,
-            variable,
-        }
+        (failed, setter)
+    };
+    Step {
+        left,
+        right,
+        variable: t.index() as u8 + 1,
     }
 }
 
