@@ -14,20 +14,13 @@ fn add(so_far: Scan, k: u32, r: Test) -> Scan
         Scan::Conflict(_) => so_far,
         Scan::Forced(_, _) => match r {
             Test::AllFalse => Scan::Conflict(k),
-            Test::Unit(_) => so_far,
+            _ => so_far,
+        },
+        Scan::Satisfied | Scan::Undecided => match r {
+            Test::AllFalse => Scan::Conflict(k),
+            Test::Unit(t) => Scan::Forced(k, t),
             Test::SomeTrue => so_far,
-            Test::Open => so_far,
-        },
-        Scan::Satisfied => match r {
-            Test::AllFalse => Scan::Conflict(k),
-            Test::Unit(t) => Scan::Forced(k, t),
-            Test::SomeTrue => Scan::Satisfied,
             Test::Open => Scan::Undecided,
-        },
-        Scan::Undecided => match r {
-            Test::AllFalse => Scan::Conflict(k),
-            Test::Unit(t) => Scan::Forced(k, t),
-            _ => Scan::Undecided,
         },
     }
 }
