@@ -1,7 +1,8 @@
-ghost use Rattle.std.specs.Prelude.{◌≡◌, ℕ, ◌<◌, ◌≤◌, length};
+ghost use Rattle.std.specs.Prelude.{◌≡◌};
 ghost use Rattle.station.specs.Views.{machine};
-ghost use Rattle.scan.specs.Tests.{Settings, Scanned, added};
+ghost use Rattle.scan.specs.Tests.{Scanned, added};
 
+use super::settings::Settings;
 use super::tests::test;
 use super::{Scan, Test};
 use station::StationFile;
@@ -26,9 +27,7 @@ fn add(so_far: Scan, k: u32, r: Test) -> Scan
 }
 
 // How the clauses of a file stand at a setting of its variables.
-pub fn scan(file: &StationFile, settings: &[u8]) -> Scan
-    requires size { length settings.now ≡ (machine file.now).variables }
-    requires settings { Settings settings.now }
+pub fn scan(file: &StationFile, settings: &Settings) -> Scan
     ensures { Scanned settings.now (machine file.now).clauses result }
 {
     let mut so_far = Scan::Satisfied;

@@ -21,7 +21,7 @@ use Rattle.search.specs.declared.Frame.{Frame}
 use Rattle.search.specs.declared.State.{State}
 use Rattle.search.specs.declared.Turn.{Turn}
 use Rattle.search.specs.declared.Turn.TheVariants.{Failing, Turned}
-use Rattle.search.specs.Stacks.{items, places_of, Sound}
+use Rattle.search.specs.Stacks.{items}
 
 -- where the search stands: the setting, the trail and the frames from the lowest, and the steps made
 pub record Position : Type 0 where
@@ -31,25 +31,10 @@ pub record Position : Type 0 where
   pub made : ℕ
 
 abbrev pub position : State → Position
-position s = record { settings = s.settings.now; marks = items s.trail; frames = items s.frames; made = s.made }
+position s = record { settings = s.settings; marks = items s.trail; frames = items s.frames; made = s.made }
 
 abbrev pub machine_of : State → Machine
 machine_of s = machine s.file.now
-
--- both stacks stand within their places, and have one for each variable
-pub record Room (s : State) : Type 0 where
-  pub trail_sound : Sound s.trail
-  pub frames_sound : Sound s.frames
-  pub trail_places : (machine_of s).variables ≤ places_of s.trail
-  pub frames_places : (machine_of s).variables ≤ places_of s.frames
-
--- the same file, as many places, and the stacks within them
-pub record Kept (a b : State) : Type 0 where
-  pub file_is : machine_of b ≡ machine_of a
-  pub trail_is : places_of b.trail ≡ places_of a.trail
-  pub frames_is : places_of b.frames ≡ places_of a.frames
-  pub trail_sound : Sound a.trail → Sound b.trail
-  pub frames_sound : Sound a.frames → Sound b.frames
 
 -- the search that is run: its order, and what the record meant before it
 pub record Run : Type 0 where
