@@ -1,20 +1,12 @@
 -- How clauses stand at a setting.
-use Rattle.std.specs.Prelude.{◌≡◌, ℕ, ◌≤◌, List, ℤ, slice_index}
-use Rattle.model.specs.Clauses.{Clause, ◌∈◌, Within, Each}
+use Rattle.std.specs.Prelude.{◌≡◌, ℕ, List, ℤ}
+use Rattle.model.specs.Clauses.{Clause, ◌∈◌, Each}
 use Rattle.model.specs.Search.{Setting, value, AllFalse, UnitOn, SomeUnit, SomeTrue, First, NoneOf, Undecided}
 use Rattle.clauses.specs.Sets.{code}
 use Rattle.scan.specs.declared.Test.{Test}
 use Rattle.scan.specs.declared.Test.TheVariants.{AllFalse as all_false, Unit as unit, SomeTrue as some_true, Open as neither}
 use Rattle.scan.specs.declared.Scan.{Scan}
 use Rattle.scan.specs.declared.Scan.TheVariants.{Conflict, Forced, Satisfied, Undecided as undecided}
-
--- the literals of the clause are of the variables 1 to n
-abbrev pub Literals : ℕ → Clause → Type 0
-Literals n C = (t : ℤ) → t ∈ C → Within n t
-
--- every variable is off, on or unset
-abbrev pub Settings : Setting → Type 0
-Settings σ = (k : ℕ) → slice_index σ k ≤ 2
 
 -- an unset literal is in the clause
 abbrev pub SomeUnset : Setting → Clause → Type 0

@@ -2,6 +2,7 @@
 #![tactic(auto)]
 
 pub mod scans;
+pub mod settings;
 pub mod tests;
 
 use clauses::Literal;

@@ -1,7 +1,8 @@
-ghost use Rattle.std.specs.Prelude.{◌≡◌, ℕ, ◌<◌, ◌≤◌, length};
+ghost use Rattle.std.specs.Prelude.{◌≡◌};
 ghost use Rattle.station.specs.Views.{machine};
-ghost use Rattle.scan.specs.Tests.{Settings, Scanned, added};
+ghost use Rattle.scan.specs.Tests.{Scanned, added};
 
+use super::settings::Settings;
 use super::tests::test;
 use super::{Scan, Test};
 use station::StationFile;
@@ -14,28 +15,19 @@ fn add(so_far: Scan, k: u32, r: Test) -> Scan
         Scan::Conflict(_) => so_far,
         Scan::Forced(_, _) => match r {
             Test::AllFalse => Scan::Conflict(k),
-            Test::Unit(_) => so_far,
+            _ => so_far,
+        },
+        Scan::Satisfied | Scan::Undecided => match r {
+            Test::AllFalse => Scan::Conflict(k),
+            Test::Unit(t) => Scan::Forced(k, t),
             Test::SomeTrue => so_far,
-            Test::Open => so_far,
-        },
-        Scan::Satisfied => match r {
-            Test::AllFalse => Scan::Conflict(k),
-            Test::Unit(t) => Scan::Forced(k, t),
-            Test::SomeTrue => Scan::Satisfied,
             Test::Open => Scan::Undecided,
-        },
-        Scan::Undecided => match r {
-            Test::AllFalse => Scan::Conflict(k),
-            Test::Unit(t) => Scan::Forced(k, t),
-            _ => Scan::Undecided,
         },
     }
 }
 
 // How the clauses of a file stand at a setting of its variables.
-pub fn scan(file: &StationFile, settings: &[u8]) -> Scan
-    requires size { length settings.now ≡ (machine file.now).variables }
-    requires settings { Settings settings.now }
+pub fn scan(file: &StationFile, settings: &Settings) -> Scan
     ensures { Scanned settings.now (machine file.now).clauses result }
 {
     let mut so_far = Scan::Satisfied;

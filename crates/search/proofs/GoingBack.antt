@@ -1,13 +1,13 @@
 -- A failed search with its last setting taken back.
-use Rattle.std.proofs.Common.{◌≡◌, ℕ, ◌+◌, ◌<◌, ◌≤◌, List, [], ◌∷◌, ◌++◌, length, set, ℤ, Some, Ok, Err, Result, sym, refl, ap, ◌∙◌, subst, append_assoc, arith, length-append}
+use Rattle.std.proofs.Common.{◌≡◌, ℕ, ◌+◌, ◌<◌, ◌≤◌, List, [], ◌∷◌, ◌++◌, length, ℤ, Some, Ok, Err, Result, sym, refl, ap, ◌∙◌, subst, append_assoc, arith, length-append}
 use Rattle.std.proofs.lemmas.Bool.{false≢true}
 use Rattle.model.specs.declared.Step.{Step}
 use Rattle.model.specs.declared.Reference.{Reference}
 use Rattle.model.specs.declared.Reference.TheVariants.{R}
 use Rattle.model.specs.declared.Decline.{Decline}
 use Rattle.model.specs.declared.Decline.TheVariants.{RecordFull}
-use Rattle.model.specs.Clauses.{Clause, on, off, opposite, Within, ◌∈◌}
-use Rattle.model.specs.Search.{Setting, make_true, fails, Outcome, Back, Branch, forced, on_ends, then_off}
+use Rattle.model.specs.Clauses.{Clause, on, off, opposite, variable, Within, ◌∈◌}
+use Rattle.model.specs.Search.{Setting, put_entry, make_true, fails, Outcome, Back, Branch, forced, on_ends, then_off}
 use Rattle.model.specs.Machine.{Machine, clause_at}
 use Rattle.model.specs.Settling.{RecordMeaning, noted}
 use Rattle.model.specs.Way.{off_side, Way, off_here}
@@ -31,7 +31,7 @@ use Rattle.search.proofs.Weights.{lighter, turned_weight}
 
 -- the position with the last mark taken off, and its variable unset
 abbrev pub back_to : Position → List Mark → List Frame → Literal → ℕ → Position
-back_to p rest fs l count = record { settings = set p.settings l.index 2; marks = rest; frames = fs; made = count }
+back_to p rest fs l count = record { settings = put_entry p.settings (variable (code l)) 2; marks = rest; frames = fs; made = count }
 
 -- what one setting taken back answers, of what the clause past it did
 abbrev pub after : Result (Unit {0}) Decline → Result Turn Decline
@@ -55,9 +55,6 @@ module _ (run : Run) (m : Machine) (rec : RecordMeaning) (p : Position) (f : Fra
   pub frames_low : length p.frames ≤ length p.marks
   frames_low = let a = held_marks s.entries p.marks p.frames s.held in let b = held_frames s.entries p.marks p.frames s.held in omega arith
 
-  pub settings_long : length p.settings ≡ n
-  settings_long = way_length F order n s.way
-
   -- forced by a clause
 
   module _ (k : ℕ) (why : x.why ≡ Forcing k) where
@@ -77,7 +74,7 @@ module _ (run : Run) (m : Machine) (rec : RecordMeaning) (p : Position) (f : Fra
       past_clause q =
           let y = last_clause F order n p.marks rest p.frames x last s.entries k s.way s.held why in
           let v = y.view in
-          let e : set p.settings x.literal.index 2 ≡ v.σ = unset_again x.literal v.σ p.settings t refl v.set_is v.unit.1 in
+          let e : put_entry p.settings (variable (code x.literal)) 2 ≡ v.σ = unset_again x.literal v.σ p.settings t refl v.set_is v.unit.1 in
           let c = came run t setter f v.C s.D (s.done ++ s.ss) p.made rec f' count' rec' (holds v.C (first_numbered v.first)) s.holds v.unit.0 s.logged q in
           let l = length-append s.done s.ss in
           let back = subst (λ (r : Reference). Back t r v.C (length s.done + length s.ss) (fails f.by s.D) c.us (fails f'.by c.E)) by
@@ -178,7 +175,7 @@ module _ (run : Run) (m : Machine) (rec : RecordMeaning) (p : Position) (f : Fra
           let y = seen in
           let v = y.view in
           let two = off_two v.σ y.k (chosen_unset v.chosen) in
-          let e : set p.settings x.literal.index 2 ≡ v.σ = unset_again x.literal v.σ p.settings (off y.k) y.lit_is v.set_is two in
+          let e : put_entry p.settings (variable (code x.literal)) 2 ≡ v.σ = unset_again x.literal v.σ p.settings (off y.k) y.lit_is v.set_is two in
           let c = came run tₒ setter f y.C s.D (s.done ++ s.ss) p.made rec f' count' rec' (setter_holds y) s.holds (in_setter y) s.logged q in
           record {
             entries = y.T;
@@ -238,7 +235,7 @@ module _ (run : Run) (m : Machine) (rec : RecordMeaning) (p : Position) (f : Fra
     past_on p' Failing (lacks, same) =
         let y = last_on F order n p.marks rest p.frames x last s.entries s.way s.held why in
         let v = y.view in
-        let e : set p.settings x.literal.index 2 ≡ v.σ = unset_again x.literal v.σ p.settings (on y.k) y.lit_is v.set_is (chosen_unset v.chosen) in
+        let e : put_entry p.settings (variable (code x.literal)) 2 ≡ v.σ = unset_again x.literal v.σ p.settings (on y.k) y.lit_is v.set_is (chosen_unset v.chosen) in
         let no : off y.k ∈ s.D → ⊥ = λ h. false≢true (sym lacks ∙ ap (λ (u : ℤ). member f.clause (opposite u)) y.lit_is ∙ (s.holds (off y.k)).0 h) in
         let b = on_ends v.undecided v.chosen (subst (λ (σ : Setting). Branch F order σ (length s.done) s.ss (fails f.by s.D)) v.set_is s.branch) no in
         let l = lighter n p.marks rest x last in
@@ -257,12 +254,12 @@ module _ (run : Run) (m : Machine) (rec : RecordMeaning) (p : Position) (f : Fra
     past_on p' Turned (has, (mark, lit, off_why, moved)) =
         let y = last_on F order n p.marks rest p.frames x last s.entries s.way s.held why in
         let v = y.view in
-        let e : set p.settings x.literal.index 2 ≡ v.σ = unset_again x.literal v.σ p.settings (on y.k) y.lit_is v.set_is (chosen_unset v.chosen) in
+        let e : put_entry p.settings (variable (code x.literal)) 2 ≡ v.σ = unset_again x.literal v.σ p.settings (on y.k) y.lit_is v.set_is (chosen_unset v.chosen) in
         let other : opposite tᵢ ≡ off y.k = ap opposite y.lit_is in
         let speaks : off y.k ∈ s.D = (s.holds (off y.k)).1 (ap (member f.clause) (sym other) ∙ has) in
         let b = subst (λ (σ : Setting). Branch F order σ (length s.done) s.ss (fails f.by s.D)) v.set_is s.branch in
-        let set_is : make_true (set p.settings x.literal.index 2) (opposite tᵢ) ≡ make_true v.σ (off y.k) = ap (λ (σ : Setting). make_true σ (opposite tᵢ)) e ∙ ap (make_true v.σ) other in
-        let q : Going run m rec (record { settings = make_true (set p.settings x.literal.index 2) (opposite tᵢ); marks = rest ++ (mark ∷ []); frames = p.frames ++ (f ∷ []); made = p.made }) = record {
+        let set_is : make_true (put_entry p.settings (variable (code x.literal)) 2) (opposite tᵢ) ≡ make_true v.σ (off y.k) = ap (λ (σ : Setting). make_true σ (opposite tᵢ)) e ∙ ap (make_true v.σ) other in
+        let q : Going run m rec (record { settings = make_true (put_entry p.settings (variable (code x.literal)) 2) (opposite tᵢ); marks = rest ++ (mark ∷ []); frames = p.frames ++ (f ∷ []); made = p.made }) = record {
           entries = off_side y.k f.by s.D ∷ y.T;
           done = s.done ++ s.ss;
           way = subst (λ (σ : Setting). Way F order n (off_side y.k f.by s.D ∷ y.T) σ (s.done ++ s.ss)) (sym set_is) (off_here v.way v.undecided v.chosen b speaks);
@@ -287,31 +284,27 @@ module _ (run : Run) (m : Machine) (rec : RecordMeaning) (p : Position) (f : Fra
       let l = lighter n p.marks rest x last in
       (q, subst (λ (ms : List Mark). length ms < length p.marks) (sym e) l.0, subst (λ (ms : List Mark). heavy n 0 ms ≤ heavy n 0 p.marks) (sym e) l.1)
 
-  module _ (p₁ p₂ : Position) (f' : Frame) (rec' : RecordMeaning) (setter : Frame) (taken : p₁ ≡ back_to p rest p.frames x.literal p.made) where
-    pub stepped_clause : (k : ℕ) → x.why ≡ Forcing k → setter.by ≡ R k → ((C : Clause) → clause_at F k ≡ Some C → Holds setter.clause C)
-        → p₂ ≡ record { settings = p₁.settings; marks = p₁.marks; frames = p₁.frames; made = p₂.made }
-        → (r : Result (Unit {0}) Decline) → Past (code x.literal) setter f p₁.made rec f' p₂.made rec' r → Stepped run m p rec' p₂ f' (after r)
-    stepped_clause k why by holds moved r q =
-        let e : p₂ ≡ back_to p rest p.frames x.literal p₂.made = moved ∙ ap (λ (z : Position). record { settings = z.settings; marks = z.marks; frames = z.frames; made = p₂.made }) taken in
-        let q' = subst (λ (i : ℕ). Past (code x.literal) setter f i rec f' p₂.made rec' r) (ap (λ (z : Position). z.made) taken) q in
-        end e r q'
-      where
-        end : p₂ ≡ back_to p rest p.frames x.literal p₂.made → (r : Result (Unit {0}) Decline) → Past (code x.literal) setter f p.made rec f' p₂.made rec' r → Stepped run m p rec' p₂ f' (after r)
-        end e (Ok _) q = below_all p₂ f' rec' (ap (λ (z : Position). z.marks) e) (subst (λ (z : Position). Stuck run m rec' z f') (sym e) (past_clause k why setter by holds f' p₂.made rec' q))
-        end e (Err d) q = full_clause k why setter by holds f' p₂.made rec' d q
+  module _ (σ' : Setting) (taken : σ' ≡ put_entry p.settings (variable (code x.literal)) 2) where
+    module _ (p' : Position) (f' : Frame) (rec' : RecordMeaning) (setter : Frame) where
+      -- the clause went past the literal, with these frames left
+      moved_to : (fs : List Frame) → p' ≡ record { settings = σ'; marks = rest; frames = fs; made = p'.made } → p' ≡ back_to p rest fs x.literal p'.made
+      moved_to fs moved = moved ∙ ap (λ (σ : Setting). record { settings = σ; marks = rest; frames = fs; made = p'.made }) taken
 
-    pub stepped_off : x.why ≡ Off → (low : List Frame) → p₁.frames ≡ low ++ (setter ∷ [])
-        → p₂ ≡ record { settings = p₁.settings; marks = p₁.marks; frames = low; made = p₂.made }
-        → (r : Result (Unit {0}) Decline) → Past (code x.literal) setter f p₁.made rec f' p₂.made rec' r → Stepped run m p rec' p₂ f' (after r)
-    stepped_off why low popped moved r q =
-        let e : p₂ ≡ back_to p rest low x.literal p₂.made = moved ∙ ap (λ (z : Position). record { settings = z.settings; marks = z.marks; frames = low; made = p₂.made }) taken in
-        let q' = subst (λ (i : ℕ). Past (code x.literal) setter f i rec f' p₂.made rec' r) (ap (λ (z : Position). z.made) taken) q in
-        end (sym (ap (λ (z : Position). z.frames) taken) ∙ popped) e r q'
-      where
-        end : p.frames ≡ low ++ (setter ∷ []) → p₂ ≡ back_to p rest low x.literal p₂.made → (r : Result (Unit {0}) Decline) → Past (code x.literal) setter f p.made rec f' p₂.made rec' r
-            → Stepped run m p rec' p₂ f' (after r)
-        end o e (Ok _) q = below_all p₂ f' rec' (ap (λ (z : Position). z.marks) e) (subst (λ (z : Position). Stuck run m rec' z f') (sym e) (past_off why low setter o f' p₂.made rec' q))
-        end o e (Err d) q = full_off why low setter o f' p₂.made rec' d q
+      pub stepped_clause : (k : ℕ) → x.why ≡ Forcing k → setter.by ≡ R k → ((C : Clause) → clause_at F k ≡ Some C → Holds setter.clause C)
+          → p' ≡ record { settings = σ'; marks = rest; frames = p.frames; made = p'.made }
+          → (r : Result (Unit {0}) Decline) → Past (code x.literal) setter f p.made rec f' p'.made rec' r → Stepped run m p rec' p' f' (after r)
+      stepped_clause k why by holds moved (Ok _) q =
+          let e = moved_to p.frames moved in
+          below_all p' f' rec' (ap (λ (z : Position). z.marks) e) (subst (λ (z : Position). Stuck run m rec' z f') (sym e) (past_clause k why setter by holds f' p'.made rec' q))
+      stepped_clause k why by holds moved (Err d) q = full_clause k why setter by holds f' p'.made rec' d q
 
-  pub stepped_on : (p₁ p₂ : Position) → p₁ ≡ back_to p rest p.frames x.literal p.made → x.why ≡ On → (r : Turn) → AtChoice (code x.literal) f p₁ p₂ r → Stepped run m p rec p₂ f (Ok r)
-  stepped_on p₁ p₂ taken why r q = past_on why p₂ r (subst (λ (z : Position). AtChoice (code x.literal) f z p₂ r) taken q)
+      pub stepped_off : x.why ≡ Off → (low : List Frame) → p.frames ≡ low ++ (setter ∷ [])
+          → p' ≡ record { settings = σ'; marks = rest; frames = low; made = p'.made }
+          → (r : Result (Unit {0}) Decline) → Past (code x.literal) setter f p.made rec f' p'.made rec' r → Stepped run m p rec' p' f' (after r)
+      stepped_off why low popped moved (Ok _) q =
+          let e = moved_to low moved in
+          below_all p' f' rec' (ap (λ (z : Position). z.marks) e) (subst (λ (z : Position). Stuck run m rec' z f') (sym e) (past_off why low setter popped f' p'.made rec' q))
+      stepped_off why low popped moved (Err d) q = full_off why low setter popped f' p'.made rec' d q
+
+    pub stepped_on : (p' : Position) → x.why ≡ On → (r : Turn) → AtChoice (code x.literal) f (record { settings = σ'; marks = rest; frames = p.frames; made = p.made }) p' r → Stepped run m p rec p' f (Ok r)
+    stepped_on p' why r q = past_on why p' r (subst (λ (σ : Setting). AtChoice (code x.literal) f (record { settings = σ; marks = rest; frames = p.frames; made = p.made }) p' r) taken q)

@@ -12,10 +12,9 @@ use Rattle.model.specs.Way.{Entry, by_clause, on_side, Way, root, forced_here, o
 use Rattle.model.proofs.Failing.{chosen_unset}
 use Rattle.model.proofs.Bound.{vacant_true}
 use Rattle.model.proofs.Total.{unset_literal, entry_two, chosen_or_none}
-use Rattle.model.proofs.Ways.{way_length, way_low, way_vacant, fits_out, unset_within}
+use Rattle.model.proofs.Ways.{way_length, way_low, way_vacant, fits_out}
 use Rattle.clauses.specs.declared.Literal.{Literal}
 use Rattle.clauses.specs.Sets.{code, Holds}
-use Rattle.clauses.proofs.Members.{code_index}
 use Rattle.scan.specs.declared.Scan.TheVariants.{Forced}
 use Rattle.scan.specs.Tests.{Scanned}
 use Rattle.search.specs.declared.Why.TheVariants.{Clause as Forcing, On}
@@ -39,7 +38,7 @@ module _ (run : Run) (m : Machine) (rec : RecordMeaning) (p : Position) (g : Goi
   pub going_length : length p.settings ≡ m.variables
   going_length = way_length m.clauses run.order m.variables g.way
 
-  pub going_low : (k : ℕ) → get_or p.settings k 0 ≤ 2
+  going_low : (k : ℕ) → get_or p.settings k 0 ≤ 2
   going_low = way_low m.clauses run.order m.variables g.way
 
   -- where a literal is unset, there is a place left
@@ -49,9 +48,6 @@ module _ (run : Run) (m : Machine) (rec : RecordMeaning) (p : Position) (g : Goi
       let w = way_vacant m.clauses run.order m.variables g.way in
       let h = held_marks g.entries p.marks p.frames g.held in
       omega arith
-
-  pub unset_index : (l : Literal) → value p.settings (code l) ≡ 2 → l.index < length p.settings
-  unset_index l e = code_index l (length p.settings) (unset_within p.settings (code l) e)
 
   -- the position with one literal more
   abbrev set_to : Mark → Position

@@ -1,9 +1,9 @@
 -- The sheet, and what settling says of the search's end.
-use Rattle.std.proofs.Common.{◌≡◌, ℕ, zero, suc, ◌+◌, ◌-◌, ◌<◌, ◌≤◌, Bool, true, false, cond, eqb, leb, List, [], ◌∷◌, ◌++◌, map, length, get_or, take, drop, set, replicate, Some, None, Ok, Err, Option, Result, sym, refl, ap, ◌∙◌, subst, append_assoc, add-one, arith, length-append, leb-true}
+use Rattle.std.proofs.Common.{◌≡◌, ℕ, zero, suc, ◌+◌, ◌-◌, ◌<◌, ◌≤◌, Bool, true, false, cond, eqb, leb, List, [], ◌∷◌, ◌++◌, map, length, get_or, take, drop, set, Some, None, Ok, Err, Option, Result, sym, refl, ap, ◌∙◌, subst, append_assoc, add-one, arith, length-append, leb-true}
 use borrow.Author.Tests.{lt-leb}
+use mir.Val.{bool_byte}
 use Rattle.std.proofs.lemmas.Bool.{eqb-true, eq-eqb, not-false}
 use Rattle.model.proofs.Merging.{both}
-use Rattle.std.proofs.lemmas.List.{take_all}
 use Rattle.model.specs.declared.Step.{Step}
 use Rattle.model.specs.declared.Answer.{Answer}
 use Rattle.model.specs.declared.Answer.TheVariants.{Fits, Cannot}
@@ -14,7 +14,8 @@ use Rattle.model.specs.Clauses.{Clause, Over}
 use Rattle.model.specs.Search.{Setting, Branch, Outcome, fits, fails}
 use Rattle.model.specs.Arguments.{unset}
 use Rattle.model.specs.Machine.{Machine}
-use Rattle.model.specs.Settling.{OrderMeaning, Lists, RecordMeaning, byte, written, left_of, takes_all, is_full, noted, told, settle_refusal, Settled}
+use Rattle.model.specs.Settling.{OrderMeaning, Lists, RecordMeaning, byte, written, left_of, takes_all, is_full, noted, told, settle_refusal, Settled, Settles, Worth}
+use Rattle.model.proofs.Worths.{worth}
 use Rattle.model.proofs.Noted.{noted_noted, noted_full}
 use Rattle.model.proofs.Ways.{finish}
 use Rattle.search.proofs.GoingOn.{going_start}
@@ -26,11 +27,14 @@ more (b ∷ σ) [] i h k = absurd (omega arith)
 more (b ∷ σ) (x ∷ sheet) zero h k = refl
 more (b ∷ σ) (x ∷ sheet) (suc i) h k = ap (λ (l : List ℕ). byte b ∷ l) (more σ sheet i (omega arith) (omega arith))
 
-pub written_more : (σ sheet : List ℕ) (i : ℕ) → i < length σ → i < length sheet → set (map byte (take i σ) ++ drop i sheet) i (byte (get_or σ i 0)) ≡ map byte (take (i + 1) σ) ++ drop (i + 1) sheet
-written_more σ sheet i h k = rw add-one (more σ sheet i h k)
+bool_byte_cond : (b : Bool) → bool_byte b ≡ cond b 1 0
+bool_byte_cond true = refl
+bool_byte_cond false = refl
 
-pub written_all : (σ sheet now : List ℕ) (i : ℕ) → i ≡ length σ → now ≡ map byte (take i σ) ++ drop i sheet → now ≡ written σ sheet
-written_all σ sheet now i e h = h ∙ ap (λ (k : ℕ). map byte (take k σ) ++ drop k sheet) e ∙ ap (λ (l : List ℕ). map byte l ++ drop (length σ) sheet) (take_all (length σ) σ (omega arith))
+-- one place more is written
+pub written_more : (σ sheet now : List ℕ) (i b : ℕ) → i < length σ → length σ ≤ length sheet → now ≡ map byte (take i σ) ++ drop i sheet → b ≡ bool_byte (eqb (get_or σ i 0) 1)
+    → set now i b ≡ map byte (take (i + 1) σ) ++ drop (i + 1) sheet
+written_more σ sheet now i b h k e q = rw (e, q, bool_byte_cond, add-one) (more σ sheet i h (omega arith))
 
 -- what is not refused
 
@@ -59,19 +63,6 @@ allowed m o rec sheet trail frames e =
       trail_long = leb-true m.variables trail y.0;
       frames_long = leb-true m.variables frames z.0;
     }
-
--- the first n of two hundred unset variables
-first_unset : (n k : ℕ) → n ≤ k → take n (replicate k 2) ≡ unset n
-first_unset zero k h = refl
-first_unset (suc n) zero h = absurd (omega arith)
-first_unset (suc n) (suc k) h = ap (λ (σ : Setting). 2 ∷ σ) (first_unset n k (omega arith))
-
--- the search begins with nothing set and nothing noted
-pub begun : (m : Machine) (o : OrderMeaning) (rec : RecordMeaning) (n : ℕ) (p : Position) → n ≡ m.variables → m.variables ≤ 200 → p.settings ≡ take (n - 0) (replicate 200 2)
-    → p.marks ≡ [] → p.frames ≡ [] → p.made ≡ 0 → Going (record { order = o.list; before = rec }) m rec p
-begun m o rec n p e few σ ms fs z =
-    let k : n - 0 ≡ m.variables = omega arith in
-    going_start (record { order = o.list; before = rec }) m rec p refl (σ ∙ ap (λ (i : ℕ). take i (replicate 200 2)) k ∙ first_unset m.variables 200 few) ms fs z
 
 module _ (m : Machine) (o : OrderMeaning) (rec rec' : RecordMeaning) (sheet : List ℕ) where
   -- the sheet is written where the answer is "fits"
@@ -121,8 +112,24 @@ module _ (m : Machine) (o : OrderMeaning) (rec rec' : RecordMeaning) (sheet : Li
         sym (ap (λ (c : Bool). (told c w.1 sheet).1) b.1),
       )
 
-  -- what the whole search comes to
-  pub settled_ran : Over m.variables m.clauses → Lists o → o.size ≡ m.variables → (p : Position) (r : Result Answer Decline) → Ran this_run m rec' p r → Settled None m o rec sheet r rec' (sheet_after r p.settings)
+  settled_ran : Over m.variables m.clauses → Lists o → o.size ≡ m.variables → (p : Position) (r : Result Answer Decline) → Ran this_run m rec' p r → Settled None m o rec sheet r rec' (sheet_after r p.settings)
   settled_ran over lists size p (Ok Fits) q = settled_fits p.settings q.0
   settled_ran over lists size p (Ok (Cannot r)) q = settled_fails r q.0 q.1
   settled_ran over lists size p (Err d) q = subst (λ (x : Decline). Settled None m o rec sheet (Err x) rec' sheet) (sym q.1) (settled_full over lists size q.0)
+
+  -- the search was run from nothing set, by a state of the same file
+  module _ (m' : Machine) (same : m' ≡ m) (p : Position) (begun : p ≡ record { settings = unset m.variables; marks = []; frames = []; made = 0 }) where
+    pub going_begun : Going this_run m' rec p
+    going_begun = rw (same, begun) (going_start this_run m rec (record { settings = unset m.variables; marks = []; frames = []; made = 0 }) refl refl refl refl refl)
+
+    module _ (p' : Position) (r : Result Answer Decline) (ran : (run : Run) → run.order ≡ o.list → Going run m' rec p → Ran run m' rec' p' r) where
+      pub ran_begun : Ran this_run m rec' p' r
+      ran_begun = subst (λ (k : Machine). Ran this_run k rec' p' r) same (ran this_run refl going_begun)
+
+      -- what the whole search comes to
+      pub settled_begun : (trail frames : ℕ) → settle_refusal m o rec (length sheet) (trail ∷ frames ∷ []) ≡ None → Over m.variables m.clauses → Lists o → (sheet' : List ℕ) → sheet' ≡ sheet_after r p'.settings
+          → Settles m o rec sheet (trail ∷ frames ∷ []) r rec' sheet' × Worth m r sheet'
+      settled_begun trail frames none over lists sheet' e =
+          let a = allowed m o rec (length sheet) trail frames none in
+          let s = settled_ran over lists a.size_is p' r ran_begun in
+          rw (e, none) (s, worth m o rec rec' sheet (sheet_after r p'.settings) over None r s)

@@ -1,5 +1,5 @@
 -- The last entry of the trail, read off its mark, and a failed search with that setting taken back.
-use Rattle.std.proofs.Common.{◌≡◌, ℕ, suc, ◌≤◌, Bool, true, false, cond, List, [], ◌∷◌, ◌++◌, length, set, ℤ, pos, negsuc, sym, refl, ap, ◌∙◌, subst, arith, length-append}
+use Rattle.std.proofs.Common.{◌≡◌, ℕ, ◌≤◌, List, [], ◌∷◌, ◌++◌, length, ℤ, sym, refl, ap, ◌∙◌, subst, arith, length-append}
 use Rattle.model.specs.declared.Step.{Step}
 use Rattle.model.specs.declared.Reference.{Reference}
 use Rattle.model.specs.Clauses.{Clause, on, off, variable, ◌∈◌}
@@ -30,18 +30,11 @@ ends_alike (w ∷ xs) (z ∷ ys) x y e =
 pub not_empty : {A : Type 0} (xs : List A) (x : A) → [] ≡ xs ++ (x ∷ []) → ⊥
 not_empty xs x e = let l = ap length e ∙ length-append xs (x ∷ []) in omega arith
 
--- the place of a literal's variable
+-- a literal that was set is unset again
 
-pub cleared : (l : Literal) (σ : Setting) → put_entry σ (variable (code l)) 2 ≡ set σ l.index 2
-cleared l σ = look l.on
-  where
-    look : (b : Bool) → put_entry σ (variable (cond b (pos (suc l.index)) (negsuc l.index))) 2 ≡ set σ l.index 2
-    look true = refl
-    look false = refl
-
-pub unset_again : (l : Literal) (σ τ : Setting) (t : ℤ) → code l ≡ t → τ ≡ make_true σ t → value σ t ≡ 2 → set τ l.index 2 ≡ σ
+pub unset_again : (l : Literal) (σ τ : Setting) (t : ℤ) → code l ≡ t → τ ≡ make_true σ t → value σ t ≡ 2 → put_entry τ (variable (code l)) 2 ≡ σ
 unset_again l σ τ t e q two =
-    sym (cleared l τ) ∙ ap (λ (u : ℤ). put_entry τ (variable u) 2) e ∙ ap (λ (ρ : Setting). put_entry ρ (variable t) 2) q ∙ clear_true σ t two
+    ap (λ (u : ℤ). put_entry τ (variable u) 2) e ∙ ap (λ (ρ : Setting). put_entry ρ (variable t) 2) q ∙ clear_true σ t two
 
 -- what each kind of entry says of the way
 

@@ -1,5 +1,5 @@
 -- What a stack holds.
-use Rattle.std.specs.Prelude.{ℕ, ◌≤◌, List, length, take}
+use Rattle.std.specs.Prelude.{ℕ, List, length, take}
 use Rattle.search.specs.declared.Stack.{Stack}
 
 -- the lowest first
@@ -9,7 +9,3 @@ items s = take s.height s.places.now
 -- how many entries it can hold
 abbrev pub places_of : {T : Type 0} → Stack T → ℕ
 places_of s = length s.places.now
-
--- it stands within its places
-abbrev pub Sound : {T : Type 0} → Stack T → Type 0
-Sound s = s.height ≤ length s.places.now

@@ -3,7 +3,7 @@ use Rattle.std.specs.Prelude.{◌≡◌, ℕ, suc, ◌+◌, ◌-◌, ◌^◌, �
 use Rattle.model.specs.declared.Step.{Step}
 use Rattle.model.specs.declared.Reference.TheVariants.{S}
 use Rattle.model.specs.declared.Answer.{Answer}
-use Rattle.model.specs.declared.Answer.TheVariants.{Fits as AllTrue, Cannot}
+use Rattle.model.specs.declared.Answer.TheVariants.{Fits, Cannot}
 use Rattle.model.specs.declared.Decline.{Decline}
 use Rattle.model.specs.declared.Decline.TheVariants.{RecordFull}
 use Rattle.model.specs.Clauses.{Clause, on, off, opposite}
@@ -21,9 +21,7 @@ use Rattle.search.specs.declared.Frame.{Frame}
 use Rattle.search.specs.declared.State.{State}
 use Rattle.search.specs.declared.Turn.{Turn}
 use Rattle.search.specs.declared.Turn.TheVariants.{Failing, Turned}
-use Rattle.search.specs.declared.Next.{Next}
-use Rattle.search.specs.declared.Next.TheVariants.{Again, Fits, Refuted}
-use Rattle.search.specs.Stacks.{items, places_of, Sound}
+use Rattle.search.specs.Stacks.{items}
 
 -- where the search stands: the setting, the trail and the frames from the lowest, and the steps made
 pub record Position : Type 0 where
@@ -33,25 +31,10 @@ pub record Position : Type 0 where
   pub made : ℕ
 
 abbrev pub position : State → Position
-position s = record { settings = s.settings.now; marks = items s.trail; frames = items s.frames; made = s.made }
+position s = record { settings = s.settings; marks = items s.trail; frames = items s.frames; made = s.made }
 
 abbrev pub machine_of : State → Machine
 machine_of s = machine s.file.now
-
--- both stacks stand within their places, and have one for each variable
-pub record Room (s : State) : Type 0 where
-  pub trail_sound : Sound s.trail
-  pub frames_sound : Sound s.frames
-  pub trail_places : (machine_of s).variables ≤ places_of s.trail
-  pub frames_places : (machine_of s).variables ≤ places_of s.frames
-
--- the same file, as many places, and the stacks within them
-pub record Kept (a b : State) : Type 0 where
-  pub file_is : machine_of b ≡ machine_of a
-  pub trail_is : places_of b.trail ≡ places_of a.trail
-  pub frames_is : places_of b.frames ≡ places_of a.frames
-  pub trail_sound : Sound a.trail → Sound b.trail
-  pub frames_sound : Sound a.frames → Sound b.frames
 
 -- the search that is run: its order, and what the record meant before it
 pub record Run : Type 0 where
@@ -158,17 +141,20 @@ Unwound run m p rec' p' f' (Ok Failing) = Stuck run m rec' p' f' × (length p'.m
 Unwound run m p rec' p' f' (Ok Turned) = Going run m rec' p' × (weight m.variables p'.marks ≤ heavy m.variables 0 p.marks)
 Unwound run m p rec' p' f' (Err d) = Halted run m rec' × (d ≡ RecordFull)
 
+-- the search has ended with this answer
+abbrev pub Answered : Run → Machine → RecordMeaning → Position → Answer → Type 0
+Answered run m rec' p' Fits = Ended run m rec' (fits p'.settings) × (length p'.settings ≡ m.variables)
+Answered run m rec' p' (Cannot r) = (D : Clause) × Ended run m rec' (fails r D)
+
 -- one turn of the search
-abbrev pub Advanced : Run → Machine → Position → RecordMeaning → Position → Result Next Decline → Type 0
-Advanced run m p rec' p' (Ok Again) = Going run m rec' p' × (weight m.variables p'.marks < weight m.variables p.marks)
-Advanced run m p rec' p' (Ok Fits) = Ended run m rec' (fits p'.settings) × (length p'.settings ≡ m.variables)
-Advanced run m p rec' p' (Ok (Refuted r)) = (D : Clause) × Ended run m rec' (fails r D)
+abbrev pub Advanced : Run → Machine → Position → RecordMeaning → Position → Result (Option Answer) Decline → Type 0
+Advanced run m p rec' p' (Ok None) = Going run m rec' p' × (weight m.variables p'.marks < weight m.variables p.marks)
+Advanced run m p rec' p' (Ok (Some a)) = Answered run m rec' p' a
 Advanced run m p rec' p' (Err d) = Halted run m rec' × (d ≡ RecordFull)
 
 -- the whole search was run
 abbrev pub Ran : Run → Machine → RecordMeaning → Position → Result Answer Decline → Type 0
-Ran run m rec' p' (Ok AllTrue) = Ended run m rec' (fits p'.settings) × (length p'.settings ≡ m.variables)
-Ran run m rec' p' (Ok (Cannot r)) = (D : Clause) × Ended run m rec' (fails r D)
+Ran run m rec' p' (Ok a) = Answered run m rec' p' a
 Ran run m rec' p' (Err d) = Halted run m rec' × (d ≡ RecordFull)
 
 -- the checks of a call: nothing is refused, or this is the first refusal

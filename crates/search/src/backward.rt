@@ -1,27 +1,27 @@
 // The way back from a clause that is false.
 ghost use Rattle.std.specs.Prelude.{◌≡◌, ℕ, ◌<◌, ◌≤◌, List, [], ◌∷◌, ◌++◌, length};
-ghost use Rattle.search.specs.States.{position, machine_of, Room, Kept, Run, Stuck, Stepped, Unwound};
+ghost use Rattle.search.specs.States.{position, machine_of, Run, Stuck, Stepped, Unwound};
 
 use super::moves::frame_of;
 use super::{Frame, State, Turn, Why};
 use model::Decline;
 use records::Record;
 
-impl State<'_, '_, '_, '_> {
+impl State<'_> {
     // Takes a failing clause back past the last setting.
     fn step_back<R: Record>(&mut self, record: &mut R, failure: &mut Frame) -> Result<Turn, Decline>
         requires deep { 0 < length (position self.old).marks }
-        requires room { Room self.old }
         requires stuck { (run : Run) × Stuck run (machine_of self.old) (R.Record.meaning «record».old) (position self.old) failure.old }
-        ensures kept { Kept self.old self.new }
+        ensures file { machine_of self.new ≡ machine_of self.old }
         ensures tied { R.Record.over «record».old «record».new }
         ensures stepped { (run : Run) → Stuck run (machine_of self.old) (R.Record.meaning «record».old) (position self.old) failure.old
             → Stepped run (machine_of self.old) (position self.old) (R.Record.meaning «record».new) (position self.new) failure.new result }
     {
         let mark = self.trail.pop();
         let t = mark.literal;
-        self.clear(t);
-        match mark.why {
+        let why = mark.why;
+        self.settings.clear(t);
+        match why {
             Why::Clause(k) => {
                 let setter = frame_of(self.file, k);
                 self.past(record, t, &setter, failure)?;
@@ -42,9 +42,8 @@ impl State<'_, '_, '_, '_> {
         record: &mut R,
         failure: &mut Frame,
     ) -> Result<Turn, Decline>
-        requires room { Room self.old }
         requires stuck { (run : Run) × Stuck run (machine_of self.old) (R.Record.meaning «record».old) (position self.old) failure.old }
-        ensures kept { Kept self.old self.new }
+        ensures file { machine_of self.new ≡ machine_of self.old }
         ensures tied { R.Record.over «record».old «record».new }
         ensures unwound { (run : Run) → Stuck run (machine_of self.old) (R.Record.meaning «record».old) (position self.old) failure.old
             → Unwound run (machine_of self.old) (position self.old) (R.Record.meaning «record».new) (position self.new) failure.new result }

@@ -3,11 +3,10 @@ ghost use Rattle.std.specs.Prelude.{◌≡◌, ℕ, ◌<◌, ◌≤◌, length};
 ghost use Rattle.model.specs.Clauses.{Clause, on};
 ghost use Rattle.model.specs.Search.{AllFalse, First, Chosen};
 ghost use Rattle.clauses.specs.Sets.{code};
-ghost use Rattle.scan.specs.Tests.{Settings, Scanned};
-ghost use Rattle.search.specs.States.{position, machine_of, Room, Kept, Run, Going, Advanced, Ran};
+ghost use Rattle.search.specs.States.{position, machine_of, Run, Going, Advanced, Ran};
 
 use super::moves::frame_of;
-use super::{Next, State, Turn, Why};
+use super::{State, Turn, Why};
 use clauses::Literal;
 use model::{Answer, Decline};
 use orders::Order;
@@ -15,24 +14,13 @@ use records::Record;
 use scan::Scan;
 use scan::scans::scan;
 
-impl State<'_, '_, '_, '_> {
-    // How the clauses stand.
-    fn scanned(&self) -> Scan
-        requires size { length (position self.now).settings ≡ (machine_of self.now).variables }
-        requires settings { Settings (position self.now).settings }
-        ensures { Scanned (position self.now).settings (machine_of self.now).clauses result }
-    {
-        let settings: &[u8] = self.settings;
-        scan(self.file, settings)
-    }
-
+impl State<'_> {
     // The variable that the order chooses, on.
     fn chosen<O: Order>(&self, order: &O) -> Literal
         requires { (k : ℕ) × Chosen (position self.now).settings (O.Order.meaning order.now).list k }
         ensures { (k : ℕ) × (code result ≡ on k) × Chosen (position self.now).settings (O.Order.meaning order.now).list k }
     {
-        let settings: &[u8] = self.settings;
-        let Some(k) = order.choose(settings) else {
+        let Some(k) = order.choose(self.settings.bytes()) else {
             return unreachable();
         };
         let Some(t) = Literal::of(i32::from(k)) else {
@@ -42,42 +30,45 @@ impl State<'_, '_, '_, '_> {
     }
 
     // Goes back from a setting at which the clause numbered k is false.
-    fn clash<R: Record>(&mut self, record: &mut R, k: u32) -> Result<Next, Decline>
-        requires room { Room self.old }
+    fn clash<R: Record>(&mut self, record: &mut R, k: u32) -> Result<Option<Answer>, Decline>
         requires first { (C : Clause) × First (AllFalse (position self.old).settings) (machine_of self.old).clauses k C }
         requires going { (run : Run) × Going run (machine_of self.old) (R.Record.meaning «record».old) (position self.old) }
-        ensures kept { Kept self.old self.new }
+        ensures file { machine_of self.new ≡ machine_of self.old }
         ensures tied { R.Record.over «record».old «record».new }
         ensures advanced { (run : Run) → Going run (machine_of self.old) (R.Record.meaning «record».old) (position self.old)
             → Advanced run (machine_of self.old) (position self.old) (R.Record.meaning «record».new) (position self.new) result }
     {
         let mut failure = frame_of(self.file, k);
         match self.unwind(record, &mut failure)? {
-            Turn::Turned => Ok(Next::Again),
-            Turn::Failing => Ok(Next::Refuted(failure.by)),
+            Turn::Turned => Ok(None),
+            Turn::Failing => Ok(Some(Answer::Cannot(failure.by))),
         }
     }
 
-    fn advance<O: Order, R: Record>(&mut self, order: &O, record: &mut R) -> Result<Next, Decline>
-        requires room { Room self.old }
+    // One turn, and the answer if the search ends with it.
+    fn advance<O: Order, R: Record>(
+        &mut self,
+        order: &O,
+        record: &mut R,
+    ) -> Result<Option<Answer>, Decline>
         requires size { (O.Order.meaning order.now).size ≡ (machine_of self.old).variables }
         requires going { (run : Run) × Going run (machine_of self.old) (R.Record.meaning «record».old) (position self.old) }
-        ensures kept { Kept self.old self.new }
+        ensures file { machine_of self.new ≡ machine_of self.old }
         ensures tied { R.Record.over «record».old «record».new }
         ensures advanced { (run : Run) → run.order ≡ (O.Order.meaning order.now).list → Going run (machine_of self.old) (R.Record.meaning «record».old) (position self.old)
             → Advanced run (machine_of self.old) (position self.old) (R.Record.meaning «record».new) (position self.new) result }
     {
-        match self.scanned() {
+        match scan(self.file, &self.settings) {
             Scan::Conflict(k) => self.clash(record, k),
             Scan::Forced(k, t) => {
                 self.set(t, Why::Clause(k));
-                Ok(Next::Again)
+                Ok(None)
             }
-            Scan::Satisfied => Ok(Next::Fits),
+            Scan::Satisfied => Ok(Some(Answer::Fits)),
             Scan::Undecided => {
                 let t = self.chosen(order);
                 self.set(t, Why::On);
-                Ok(Next::Again)
+                Ok(None)
             }
         }
     }
@@ -88,7 +79,6 @@ impl State<'_, '_, '_, '_> {
         order: &O,
         record: &mut R,
     ) -> Result<Answer, Decline>
-        requires room { Room self.old }
         requires size { (O.Order.meaning order.now).size ≡ (machine_of self.old).variables }
         requires going { (run : Run) × (run.order ≡ (O.Order.meaning order.now).list) × Going run (machine_of self.old) (R.Record.meaning «record».old) (position self.old) }
         ensures tied { R.Record.over «record».old «record».new }
@@ -96,10 +86,8 @@ impl State<'_, '_, '_, '_> {
             → Ran run (machine_of self.old) (R.Record.meaning «record».new) (position self.new) result }
     {
         loop {
-            match self.advance(order, record)? {
-                Next::Again => {}
-                Next::Fits => return Ok(Answer::Fits),
-                Next::Refuted(by) => return Ok(Answer::Cannot(by)),
+            if let Some(answer) = self.advance(order, record)? {
+                return Ok(answer);
             }
         }
     }

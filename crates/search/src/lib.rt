@@ -1,8 +1,12 @@
 // The search: clauses that force a literal, choices of the order, and resolution steps on the way back, by two stacks over lent memory.
 #![tactic(auto)]
 
+ghost use Rattle.std.specs.Prelude.{◌≤◌, length};
+ghost use Rattle.station.specs.Views.{machine};
+
 use clauses::{Literal, LiteralSet};
 use model::Reference;
+use scan::settings::Settings;
 use station::StationFile;
 
 mod backward;
@@ -33,22 +37,25 @@ pub struct Frame {
     clause: LiteralSet,
 }
 
-// A stack over places that are lent to it.
+// A stack over places that are lent to it: `settle` is lent its memory, so that it may refuse it.
 #[derive(Drop)]
 struct Stack<'a, T: Copy> {
     places: &'a mut [T],
     height: usize,
+    ghost within: { height ≤ length places.now },
 }
 
 // Where the search stands: what every variable is set to, the trail of settings made, the frames of the branches open, and how many steps were
 // made (the largest number stands for all beyond it).
 #[derive(Drop)]
-struct State<'f, 's, 't, 'r> {
-    file: &'f StationFile,
-    settings: &'s mut [u8],
-    trail: Stack<'t, Mark>,
-    frames: Stack<'r, Frame>,
+struct State<'m> {
+    file: &'m StationFile,
+    settings: Settings,
+    trail: Stack<'m, Mark>,
+    frames: Stack<'m, Frame>,
     made: u32,
+    ghost trail_places: { (machine file.now).variables ≤ length trail.places.now },
+    ghost frames_places: { (machine file.now).variables ≤ length frames.places.now },
 }
 
 // A failing clause was taken back past one setting: the search still fails, or goes on with the other side of a choice.
@@ -56,12 +63,4 @@ struct State<'f, 's, 't, 'r> {
 enum Turn {
     Failing,
     Turned,
-}
-
-// One turn of the search: it goes on, it fits, or it failed with nothing set.
-#[derive(Clone, Copy)]
-enum Next {
-    Again,
-    Fits,
-    Refuted(Reference),
 }

@@ -1,13 +1,12 @@
 // Single moves: a literal is set or unset, a failing clause goes past one, a choice is turned.
-ghost use Rattle.std.specs.Prelude.{◌≡◌, ℕ, ◌+◌, ◌<◌, ◌≤◌, [], ◌∷◌, ◌++◌, length, set, Some, slice_set};
+ghost use Rattle.std.specs.Prelude.{◌≡◌, ℕ, ◌+◌, ◌<◌, ◌≤◌, [], ◌∷◌, ◌++◌, length, Some};
 ghost use Rattle.model.specs.declared.Reference.TheVariants.{R};
 ghost use Rattle.model.specs.Clauses.{Clause, opposite};
 ghost use Rattle.model.specs.Search.{make_true, made as made_of};
 ghost use Rattle.model.specs.Machine.{clause_at};
 ghost use Rattle.clauses.specs.Sets.{code, Holds};
 ghost use Rattle.station.specs.Views.{machine};
-ghost use Rattle.search.specs.Stacks.{places_of, Sound};
-ghost use Rattle.search.specs.States.{position, machine_of, Kept, Past, AtChoice};
+ghost use Rattle.search.specs.States.{position, machine_of, Past, AtChoice};
 
 use super::{Frame, Mark, State, Turn, Why};
 use clauses::{Literal, LiteralSet};
@@ -15,26 +14,15 @@ use model::{Decline, Reference, Step};
 use records::Record;
 use station::StationFile;
 
-impl State<'_, '_, '_, '_> {
+impl State<'_> {
     // Sets a literal true.
     pub(crate) fn set(&mut self, t: Literal, why: Why)
-        requires within { t.index < length self.old.settings.now }
-        requires sound { Sound self.old.trail }
-        requires room { length (position self.old).marks < places_of self.old.trail }
-        ensures kept { Kept self.old self.new }
+        requires { length (position self.old).marks < (machine_of self.old).variables }
+        ensures file { machine_of self.new ≡ machine_of self.old }
         ensures position { position self.new ≡ record { settings = make_true (position self.old).settings (code t); marks = (position self.old).marks ++ (record { literal = t; why = why } ∷ []); frames = (position self.old).frames; made = (position self.old).made } }
     {
-        self.settings[t.index()] = if t.is_on() { 1 } else { 0 };
+        self.settings.set(t);
         self.trail.push(Mark { literal: t, why });
-    }
-
-    // Unsets the variable of a literal.
-    pub(crate) fn clear(&mut self, t: Literal)
-        requires { t.index < length self.old.settings.now }
-        ensures kept { Kept self.old self.new }
-        ensures position { position self.new ≡ record { settings = slice_set (position self.old).settings t.index 2; marks = (position self.old).marks; frames = (position self.old).frames; made = (position self.old).made } }
-    {
-        self.settings[t.index()] = 2;
     }
 
     // Takes a failing clause past a literal that the setter made true: as it is if it lacks the literal's opposite, else by a step.
@@ -46,7 +34,7 @@ impl State<'_, '_, '_, '_> {
         failure: &mut Frame,
     ) -> Result<(), Decline>
         requires { t.index < 255 }
-        ensures kept { Kept self.old self.new }
+        ensures file { machine_of self.new ≡ machine_of self.old }
         ensures tied { R.Record.over «record».old «record».new }
         ensures position { position self.new ≡ record { settings = (position self.old).settings; marks = (position self.old).marks; frames = (position self.old).frames; made = (position self.new).made } }
         ensures past { Past (code t) setter.now failure.old (position self.old).made (R.Record.meaning «record».old) failure.new (position self.new).made (R.Record.meaning «record».new) result }
@@ -63,11 +51,9 @@ impl State<'_, '_, '_, '_> {
 
     // Takes a failing clause back to a choice that is on: the off side is next if the clause holds the off literal.
     pub(crate) fn turn(&mut self, t: Literal, failure: &Frame) -> Turn
-        requires within { t.index < length self.old.settings.now }
-        requires sound { (Sound self.old.trail) × (Sound self.old.frames) }
-        requires marks { length (position self.old).marks < places_of self.old.trail }
-        requires frames { length (position self.old).frames < places_of self.old.frames }
-        ensures kept { Kept self.old self.new }
+        requires marks { length (position self.old).marks < (machine_of self.old).variables }
+        requires frames { length (position self.old).frames < (machine_of self.old).variables }
+        ensures file { machine_of self.new ≡ machine_of self.old }
         ensures turned { AtChoice (code t) failure.now (position self.old) (position self.new) result }
     {
         let other = t.opposite();
@@ -85,19 +71,15 @@ fn step_on(t: Literal, setter: Reference, failed: Reference) -> Step
     requires { t.index < 255 }
     ensures { result ≡ made_of (code t) setter failed }
 {
-    let variable = t.index() as u8 + 1;
-    if t.is_on() {
-        Step {
-            left: setter,
-            right: failed,
-            variable,
-        }
+    let (left, right) = if t.is_on() {
+        (setter, failed)
     } else {
-        Step {
-            left: failed,
-            right: setter,
-            variable,
-        }
+        (failed, setter)
+    };
+    Step {
+        left,
+        right,
+        variable: t.index() as u8 + 1,
     }
 }
 

@@ -1,17 +1,19 @@
 // Settling a file.
 ghost use Rattle.std.specs.Prelude.{◌≡◌, ℕ, ◌<◌, ◌≤◌, false, List, [], ◌∷◌, length, ℤ, pos, None};
-ghost use Rattle.model.specs.Settling.{settle_refusal, written, Settled, Settles, Worth};
+ghost use Rattle.model.specs.Settling.{settle_refusal, written, Settles, Worth};
+ghost use Rattle.model.specs.Arguments.{unset};
 ghost use Rattle.model.specs.declared.Reference.TheVariants.{R};
 ghost use Rattle.clauses.specs.Sets.{code, member};
 ghost use Rattle.search.specs.declared.Why.TheVariants.{Off};
 ghost use Rattle.station.specs.Views.{machine};
-ghost use Rattle.search.specs.States.{Refuses};
+ghost use Rattle.search.specs.States.{position, machine_of, Refuses};
 
 use super::{Frame, Mark, Stack, State, Why};
 use clauses::{Literal, LiteralSet};
 use model::{Answer, Decline, Reference};
 use orders::Order;
 use records::Record;
+use scan::settings::Settings;
 use station::StationFile;
 
 // The checks of `settle`, in their order.
@@ -46,41 +48,35 @@ fn write(settings: &[u8], sheet: &mut [u8])
     requires { length settings.now ≤ length sheet.old }
     ensures { sheet.new ≡ written settings.now sheet.old }
 {
-    for i in 0..settings.len() {
-        sheet[i] = if settings[i] == 1 { 1 } else { 0 };
+    // by place: a proof learns nothing of what is written through a zip over `iter_mut`
+    for (i, setting) in settings.iter().enumerate() {
+        sheet[i] = u8::from(*setting == 1);
     }
 }
 
-// The search itself, where nothing is refused.
-fn search<O: Order, R: Record>(
-    file: &StationFile,
-    order: &O,
-    record: &mut R,
-    sheet: &mut [u8],
-    trail: &mut [Mark],
-    frames: &mut [Frame],
-) -> Result<Answer, Decline>
-    requires { settle_refusal (machine file.now) (O.Order.meaning order.now) (R.Record.meaning «record».old) (length sheet.old) (length trail.old ∷ length frames.old ∷ []) ≡ None }
-    ensures tied { R.Record.over «record».old «record».new }
-    ensures settled { Settled None (machine file.now) (O.Order.meaning order.now) (R.Record.meaning «record».old) sheet.old result (R.Record.meaning «record».new) sheet.new }
-{
-    let n = file.variables() as usize;
-    let mut settings = [2u8; 200];
-    let part = &mut settings[0..n];
-    let trail = Stack::over(trail);
-    let frames = Stack::over(frames);
-    let mut state = State {
-        file,
-        settings: part,
-        trail,
-        frames,
-        made: 0,
-    };
-    let answer = state.run(order, record)?;
-    if let Answer::Fits = answer {
-        write(state.settings, sheet);
+impl<'m> State<'m> {
+    // The search before its first turn: nothing is set.
+    fn start(
+        file: &'m StationFile,
+        trail: &'m mut [Mark],
+        frames: &'m mut [Frame],
+    ) -> State<'m>
+        requires trail { (machine file.now).variables ≤ length trail.old }
+        requires frames { (machine file.now).variables ≤ length frames.old }
+        ensures file { machine_of result ≡ machine file.now }
+        ensures position { position result ≡ record { settings = unset (machine file.now).variables; marks = []; frames = []; made = 0 } }
+    {
+        let settings = Settings::new(file.variables());
+        let trail = Stack::over(trail);
+        let frames = Stack::over(frames);
+        State {
+            file,
+            settings,
+            trail,
+            frames,
+            made: 0,
+        }
     }
-    Ok(answer)
 }
 
 // Finds a valuation that satisfies every clause of the file, or the steps of an argument that none does: see docs/search.md.
@@ -97,7 +93,12 @@ pub fn settle<O: Order, R: Record>(
     ensures worth { Worth (machine file.now) result sheet.new }
 {
     refusal(file, order, record, sheet.len(), trail.len(), frames.len())?;
-    search(file, order, record, sheet, trail, frames)
+    let mut state = State::start(file, trail, frames);
+    let answer = state.run(order, record)?;
+    if let Answer::Fits = answer {
+        write(state.settings.bytes(), sheet);
+    }
+    Ok(answer)
 }
 
 impl Mark {

@@ -1,28 +1,24 @@
 ghost use Rattle.std.specs.Prelude.{◌≡◌, ℕ, ◌<◌, [], ◌∷◌, ◌++◌, length};
-ghost use Rattle.search.specs.Stacks.{items, places_of, Sound};
+ghost use Rattle.search.specs.Stacks.{items, places_of};
 
 use super::Stack;
 
 impl<'a, T: Copy> Stack<'a, T> {
     pub(crate) fn over(places: &'a mut [T]) -> Stack<'a, T>
         ensures items { items result ≡ [] }
-        ensures fits { Sound result }
         ensures places { places_of result ≡ length places.old }
     {
         Stack { places, height: 0 }
     }
 
     pub(crate) fn height(&self) -> usize
-        requires { Sound self.now }
         ensures { result ≡ length (items self.now) }
     {
         self.height
     }
 
     pub(crate) fn push(&mut self, x: T)
-        requires sound { Sound self.old }
-        requires room { length (items self.old) < places_of self.old }
-        ensures sound { Sound self.new }
+        requires { length (items self.old) < places_of self.old }
         ensures items { items self.new ≡ items self.old ++ (x ∷ []) }
         ensures places { places_of self.new ≡ places_of self.old }
     {
@@ -32,9 +28,7 @@ impl<'a, T: Copy> Stack<'a, T> {
 
     // The top, which is taken off; the height was asked before.
     pub(crate) fn pop(&mut self) -> T
-        requires sound { Sound self.old }
-        requires some { 0 < length (items self.old) }
-        ensures sound { Sound self.new }
+        requires { 0 < length (items self.old) }
         ensures items { items self.old ≡ items self.new ++ (result ∷ []) }
         ensures places { places_of self.new ≡ places_of self.old }
     {

@@ -3,28 +3,17 @@ use Rattle.std.proofs.lemmas.List.{take_all, take-append-drop, length-take-le}
 use Rattle.model.specs.Clauses.{Clause}
 use Rattle.model.specs.Search.{Setting}
 use Rattle.model.specs.Machine.{clause_at}
-use Rattle.model.proofs.Numbered.{numbered_take, numbered_each, numbered_there}
+use Rattle.model.proofs.Numbered.{numbered_take, numbered_there}
 use Rattle.station.specs.Views.{machine}
-use Rattle.station.proofs.Files.{over_file, small_file}
 use Rattle.scan.specs.declared.Scan.{Scan}
 use Rattle.scan.specs.declared.Scan.TheVariants.{Conflict}
 use Rattle.scan.specs.declared.Test.{Test}
-use Rattle.scan.specs.Tests.{Literals, Tested, Scanned, added}
+use Rattle.scan.specs.Tests.{Tested, Scanned, added}
 use Rattle.scan.proofs.Scanned.{added_scanned, conflict_more}
 use Rattle.scan.proofs.scans.scan.Goals as goal
 
 pub unreachable-requires : goal.unreachable-requires
 unreachable-requires c = numbered_there (machine c.args.file.now).clauses (c.loop-i.i + 1) (omega arith) (omega (arith, c.clauses-i-end.ensures)) c.in_default.ensures
-
-pub test-requires : goal.test-requires
-test-requires c =
-    let f = c.args.file.now in
-    let w : Literals (machine f).variables c.in-Some.literals.now = numbered_each (Literals (machine f).variables) (machine f).clauses (c.loop-i.i + 1) _ (over_file f) c.in-Some.ensures in
-    record {
-      literals = subst (λ (n : ℕ). Literals n c.in-Some.literals.now) (sym c.requires.size) w;
-      few = omega (arith, c.requires.size, small_file f);
-      settings = c.requires.settings;
-    }
 
 -- the clause numbered i + 1 is taken into the scan
 one_more : (σ : Setting) (F : List Clause) (i : ℕ) (C : Clause) (s s' : Scan) (r : Test) → i < length F → clause_at F (i + 1) ≡ Some C → Tested σ C r → Scanned σ (take i F) s

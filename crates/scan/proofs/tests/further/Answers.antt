@@ -1,12 +1,11 @@
-use Rattle.std.proofs.Common.{◌≡◌, ℕ, ◌==◌, Bool, true, false, ◌&&◌, refl, ◌∙◌, subst, arith}
+use Rattle.std.proofs.Common.{◌≡◌, ℕ, ◌==◌, Bool, true, false, ◌&&◌, refl, subst, arith}
 use Rattle.std.proofs.Math.Bool.{beq}
 use Rattle.std.proofs.lemmas.Bool.Decides.{nat_tests}
-use Rattle.model.specs.Search.{value}
 use Rattle.clauses.specs.Sets.{code}
 use Rattle.clauses.proofs.Members.{code_same, same_code}
 use Rattle.scan.specs.declared.Test.{Test}
 use Rattle.scan.specs.Tests.{Tested}
-use Rattle.scan.proofs.Tested.{tested_false, true_more, unit_first, unit_again, open_second, open_more}
+use Rattle.scan.proofs.Tested.{true_more, unit_first, unit_again, open_second, open_more}
 use Rattle.scan.proofs.tests.further.Goals as goal
 
 -- the index and the sign of equal literals
@@ -22,13 +21,9 @@ other_parts i j true false h e f = cc
 other_parts i j false true h e f = cc
 other_parts i j false false h e f = grind (arith, nat_tests)
 
-pub returns-then-v-eq0 : goal.returns-then-v-eq0
-returns-then-v-eq0 c σ C e h = tested_false σ C (code c.args.t) c.args.so_far (e ∙ c.if-v-eq0.true) h
-
 pub returns-in-AllFalse : goal.returns-in-AllFalse
 returns-in-AllFalse c σ C e h =
-    let v : value σ (code c.args.t) ≡ 2 = e ∙ omega arith in
-    unit_first σ C (code c.args.t) v (subst (λ (r : Test). Tested σ C r) c.in-AllFalse.is h)
+    unit_first σ C (code c.args.t) e (subst (λ (r : Test). Tested σ C r) c.in-AllFalse.is h)
 
 pub returns-then-eq : goal.returns-then-eq
 returns-then-eq c σ C e h =
@@ -36,13 +31,11 @@ returns-then-eq c σ C e h =
 
 pub returns-else-eq : goal.returns-else-eq
 returns-else-eq c σ C e h =
-    let v : value σ (code c.args.t) ≡ 2 = e ∙ omega arith in
-    open_second σ C (code c.args.t) (code c.in-Unit.u) v (λ q. let s = code_same c.args.t c.in-Unit.u q in other_parts _ _ _ _ c.if-eq.ensures s.0 s.1) (subst (λ (r : Test). Tested σ C r) c.in-Unit.is h)
+    open_second σ C (code c.args.t) (code c.in-Unit.u) e (λ q. let s = code_same c.args.t c.in-Unit.u q in other_parts _ _ _ _ c.if-eq.ensures s.0 s.1) (subst (λ (r : Test). Tested σ C r) c.in-Unit.is h)
 
 pub returns-in-SomeTrue : goal.returns-in-SomeTrue
 returns-in-SomeTrue c σ C e h = true_more σ C (code c.args.t) (subst (λ (r : Test). Tested σ C r) c.in-SomeTrue.is h)
 
 pub returns-in-Open : goal.returns-in-Open
 returns-in-Open c σ C e h =
-    let v : value σ (code c.args.t) ≡ 2 = e ∙ omega arith in
-    open_more σ C (code c.args.t) v (subst (λ (r : Test). Tested σ C r) c.in-Open.is h)
+    open_more σ C (code c.args.t) e (subst (λ (r : Test). Tested σ C r) c.in-Open.is h)

@@ -1,25 +1,14 @@
-use Rattle.std.proofs.Common.{ℕ, List, sym, ap, ◌∙◌, subst, arith}
+use Rattle.std.proofs.Common.{ℕ, List, sym, ap, refl, ◌∙◌, subst}
 use Rattle.model.specs.Search.{Chosen, value}
 use Rattle.model.proofs.Failing.{chosen_unset}
 use Rattle.clauses.specs.Sets.{code}
 use Rattle.station.proofs.Files.{over_file}
 use Rattle.search.specs.States.{position}
-use Rattle.search.proofs.Keeping.{kept_same}
-use Rattle.search.proofs.GoingOn.{going_length, going_low, not_deep, unset_index, going_forced, going_chosen, going_fits, choice_left}
+use Rattle.search.proofs.GoingOn.{going_length, not_deep, going_forced, going_chosen, going_fits, choice_left}
 use Rattle.search.proofs.State.advance.Goals as goal
 
-pub scanned-requires : goal.scanned-requires
-scanned-requires g c =
-    let run = c.requires.going.0 in
-    let s = c.requires.going.1 in
-    record { size = going_length run _ _ _ s; settings = going_low run _ _ _ s }
-
 pub set-requires : goal.set-requires
-set-requires g c =
-    let run = c.requires.going.0 in
-    let s = c.requires.going.1 in
-    let two = c.in-Forced.ensures.1.1.1.1 in
-    record { within = unset_index run _ _ _ s c.in-Forced.t two; sound = c.requires.room.trail_sound; room = (let d = not_deep run _ _ _ s (code c.in-Forced.t) two in omega (arith, d, c.requires.room.trail_places)) }
+set-requires g c = not_deep c.requires.going.0 _ _ _ c.requires.going.1 (code c.in-Forced.t) c.in-Forced.ensures.1.1.1.1
 
 pub chosen-t-requires : goal.chosen-t-requires
 chosen-t-requires g c =
@@ -27,24 +16,21 @@ chosen-t-requires g c =
 
 pub set-requires-in-Undecided : goal.set-requires-in-Undecided
 set-requires-in-Undecided g c =
-    let run = c.requires.going.0 in
-    let s = c.requires.going.1 in
     let k = c.chosen-t.ensures in
-    let two = ap (value (position c.args.self.now).settings) k.1 ∙ chosen_unset k.2 in
-    record { within = unset_index run _ _ _ s c.chosen-t.result two; sound = c.requires.room.trail_sound; room = (let d = not_deep run _ _ _ s (code c.chosen-t.result) two in omega (arith, d, c.requires.room.trail_places)) }
+    not_deep c.requires.going.0 _ _ _ c.requires.going.1 (code c.chosen-t.result) (ap (value (position c.args.self.now).settings) k.1 ∙ chosen_unset k.2)
 
 pub returns-in-Forced : goal.returns-in-Forced
-returns-in-Forced g c = record { kept = c.set.ensures.kept; tied = g.R.Record.stays _; advanced = λ run o s. going_forced run _ _ _ s c.in-Forced.k c.in-Forced.t (position c.set.new.self) c.in-Forced.ensures c.set.ensures.position }
+returns-in-Forced g c = record { file = c.set.ensures.file; tied = g.R.Record.stays _; advanced = λ run o s. going_forced run _ _ _ s c.in-Forced.k c.in-Forced.t (position c.set.new.self) c.in-Forced.ensures c.set.ensures.position }
 
 pub returns-in-Satisfied : goal.returns-in-Satisfied
-returns-in-Satisfied g c = record { kept = kept_same; tied = g.R.Record.stays _; advanced = λ run o s. (going_fits run _ _ _ s c.in-Satisfied.ensures, going_length run _ _ _ s) }
+returns-in-Satisfied g c = record { file = refl; tied = g.R.Record.stays _; advanced = λ run o s. (going_fits run _ _ _ s c.in-Satisfied.ensures, going_length run _ _ _ s) }
 
 pub returns-in-Undecided : goal.returns-in-Undecided
 returns-in-Undecided g c =
     let k = c.chosen-t.ensures in
     let σ = (position c.args.self.now).settings in
     record {
-      kept = c.set-in-Undecided.ensures.kept;
+      file = c.set-in-Undecided.ensures.file;
       tied = g.R.Record.stays _;
       advanced = λ run o s. going_chosen run _ _ _ s k.0 c.chosen-t.result (position c.set-in-Undecided.new.self) c.in-Undecided.ensures k.1 (subst (λ (xs : List ℕ). Chosen σ xs k.0) (sym o) k.2) c.set-in-Undecided.ensures.position;
     }

@@ -6,7 +6,7 @@ use Rattle.search.proofs.GoingOn.{chosen_some, chosen_low}
 use Rattle.search.proofs.State.chosen.Goals as goal
 
 pub unreachable-requires : goal.unreachable-requires
-unreachable-requires g c = chosen_some c.requires.1 c.in_default.ensures
+unreachable-requires g c = chosen_some {k = c.requires.0} (rw c.bytes.ensures c.requires.1) c.in_default.ensures
 
 pub unreachable-requires-in_default-of : goal.unreachable-requires-in_default-of
 unreachable-requires-in_default-of g c =
@@ -19,4 +19,4 @@ unreachable-requires-in_default-of g c =
 pub returns : goal.returns
 returns g c =
     let f : SFits w32 c.from.result = search rules in
-    (c.in-Some.k, c.in-Some-of.ensures ∙ to_z-of_z w32 c.from.result f ∙ c.from.ensures, c.in-Some.ensures)
+    (c.in-Some.k, c.in-Some-of.ensures ∙ to_z-of_z w32 c.from.result f ∙ c.from.ensures, rw (← c.bytes.ensures) c.in-Some.ensures)

@@ -14,14 +14,14 @@ pub unwind-requires : goal.unwind-requires
 unwind-requires g c =
     let f = c.requires.first in
     let run = c.requires.going.0 in
-    record { room = c.requires.room; stuck = (run, going_stuck run _ _ _ c.requires.going.1 c.args.k c.frame_of-failure.result f.0 f.1 c.frame_of-failure.ensures.by (c.frame_of-failure.ensures.holds f.0 (first_numbered f.1))) }
+    record { stuck = (run, going_stuck run _ _ _ c.requires.going.1 c.args.k c.frame_of-failure.result f.0 f.1 c.frame_of-failure.ensures.by (c.frame_of-failure.ensures.holds f.0 (first_numbered f.1))) }
 
 pub returns-in_err-unwind : goal.returns-in_err-unwind
 returns-in_err-unwind g c =
     let f = c.requires.first in
     let q = err_from_is_err_and c.from_residual.result c.from_residual.ensures.1 in
     record {
-      kept = c.unwind.ensures.kept;
+      file = c.unwind.ensures.file;
       tied = c.unwind.ensures.tied;
       advanced = λ run s. rw (q.1, q.2) (c.in_err-unwind.ensures.unwound run
           (going_stuck run _ _ _ s c.args.k c.frame_of-failure.result f.0 f.1 c.frame_of-failure.ensures.by (c.frame_of-failure.ensures.holds f.0 (first_numbered f.1))));
@@ -32,7 +32,7 @@ returns-in-Turned g c =
     let f = c.requires.first in
     let m = machine_of c.args.self.now in
     record {
-      kept = c.unwind.ensures.kept;
+      file = c.unwind.ensures.file;
       tied = c.unwind.ensures.tied;
       advanced = λ run s.
           let u = c.in_ok-unwind.ensures.unwound run
@@ -46,7 +46,7 @@ returns-in-Failing g c =
     let f = c.requires.first in
     let m = machine_of c.args.self.now in
     record {
-      kept = c.unwind.ensures.kept;
+      file = c.unwind.ensures.file;
       tied = c.unwind.ensures.tied;
       advanced = λ run s.
           let u = c.in_ok-unwind.ensures.unwound run

@@ -1,10 +1,10 @@
-use Rattle.std.proofs.Common.{◌≤◌, length}
-use Rattle.search.specs.States.{position, machine_of, Kept, Run, Stuck, heavy}
+use Rattle.std.proofs.Common.{◌≡◌, ◌≤◌, length}
+use Rattle.search.specs.States.{position, machine_of, Run, Stuck, heavy}
 use Rattle.search.proofs.State.unwind.Given as goal
 
 abbrev pub invariant-loop-self : goal.invariant-loop-self
 invariant-loop-self g l =
-    Kept l.initial.self l.self
+    (machine_of l.self ≡ machine_of l.initial.self)
     × g.R.Record.over l.initial.record l.record
     × ((run : Run) → Stuck run (machine_of l.initial.self) (g.R.Record.meaning l.initial.record) (position l.initial.self) l.initial.failure
     → Stuck run (machine_of l.initial.self) (g.R.Record.meaning l.record) (position l.self) l.failure)

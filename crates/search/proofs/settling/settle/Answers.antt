@@ -1,19 +1,53 @@
-use Rattle.std.proofs.Common.{None, Option, sym, subst}
-use Rattle.model.specs.declared.Decline.{Decline}
-use Rattle.model.specs.Settling.{Settled}
-use Rattle.model.proofs.Worths.{worth}
+use Rattle.std.proofs.Common.{length, Ok, Err, refl, arith}
+use Rattle.std.proofs.lemmas.Result.{err_from_is_err_and}
 use Rattle.station.specs.Views.{machine}
 use Rattle.station.proofs.Files.{over_file}
+use Rattle.search.specs.States.{position, machine_of}
+use Rattle.search.proofs.Sheets.{allowed, going_begun, ran_begun, settled_begun}
 use Rattle.search.proofs.settling.settle.Goals as goal
 
-pub returns : goal.returns
-returns g c =
-    let m = machine c.args.file.now in
+pub start-state-requires : goal.start-state-requires
+start-state-requires g c =
+    let a = allowed (machine c.args.file.now) (g.O.Order.meaning c.args.order.now) (g.R.Record.meaning c.args.record.now) (length c.args.sheet.now) (length c.args.trail.now) (length c.args.frames.now) c.in_ok-refusal.ensures in
+    record { trail = a.trail_long; frames = a.frames_long }
+
+pub run-requires : goal.run-requires
+run-requires g c =
     let o = g.O.Order.meaning c.args.order.now in
     let rec = g.R.Record.meaning c.args.record.now in
-    let s = c.search.ensures.settled in
+    let a = allowed (machine c.args.file.now) o rec (length c.args.sheet.now) (length c.args.trail.now) (length c.args.frames.now) c.in_ok-refusal.ensures in
     record {
-      tied = c.search.ensures.tied;
-      settles = subst (λ (q : Option Decline). Settled q m o rec c.args.sheet.now c.search.result (g.R.Record.meaning c.search.new.record) c.search.new.sheet) (sym c.in_ok-refusal.ensures) s;
-      worth = worth m o rec (g.R.Record.meaning c.search.new.record) c.args.sheet.now c.search.new.sheet (over_file c.args.file.now) None c.search.result s;
+      size = rw c.start-state.ensures.file a.size_is;
+      going = (record { order = o.list; before = rec }, refl, going_begun (machine c.args.file.now) o rec rec c.args.sheet.now (machine_of c.start-state.result) c.start-state.ensures.file (position c.start-state.result) c.start-state.ensures.position);
     }
+
+pub returns-in_err-answer : goal.returns-in_err-answer
+returns-in_err-answer g c =
+    let q = err_from_is_err_and c.from_residual-in_err-answer.result c.from_residual-in_err-answer.ensures.1 in
+    let b = settled_begun (machine c.args.file.now) (g.O.Order.meaning c.args.order.now) (g.R.Record.meaning c.args.record.now) (g.R.Record.meaning c.run.new.record) c.args.sheet.now
+    (machine_of c.start-state.result) c.start-state.ensures.file (position c.start-state.result) c.start-state.ensures.position (position c.run.new.self) (Err c.in_err-answer.field-0.0) c.in_err-answer.ensures.ran
+    (length c.args.trail.now) (length c.args.frames.now) c.in_ok-refusal.ensures (over_file c.args.file.now) (g.O.Order.whole c.args.order.now) c.args.sheet.now refl in
+    record { tied = c.run.ensures.tied; settles = rw (q.1, q.2) b.0; worth = rw q.1 tt }
+
+pub write-requires : goal.write-requires
+write-requires g c =
+    let o = g.O.Order.meaning c.args.order.now in
+    let rec = g.R.Record.meaning c.args.record.now in
+    let a = allowed (machine c.args.file.now) o rec (length c.args.sheet.now) (length c.args.trail.now) (length c.args.frames.now) c.in_ok-refusal.ensures in
+    let r = rw c.in-Fits.is at (ran_begun (machine c.args.file.now) o rec (g.R.Record.meaning c.run.new.record) c.args.sheet.now (machine_of c.start-state.result) c.start-state.ensures.file (position c.start-state.result) c.start-state.ensures.position
+    (position c.run.new.self) (Ok c.in_ok-answer.answer) c.in_ok-answer.ensures.ran) in
+    rw c.bytes.ensures (omega (arith, r.1, a.sheet_long))
+
+pub returns-in-Fits : goal.returns-in-Fits
+returns-in-Fits g c =
+    let b = settled_begun (machine c.args.file.now) (g.O.Order.meaning c.args.order.now) (g.R.Record.meaning c.args.record.now) (g.R.Record.meaning c.run.new.record) c.args.sheet.now
+    (machine_of c.start-state.result) c.start-state.ensures.file (position c.start-state.result) c.start-state.ensures.position (position c.run.new.self) (Ok c.in_ok-answer.answer) c.in_ok-answer.ensures.ran
+    (length c.args.trail.now) (length c.args.frames.now) c.in_ok-refusal.ensures (over_file c.args.file.now) (g.O.Order.whole c.args.order.now) c.write.new.sheet (rw (c.in-Fits.is, ← c.bytes.ensures) c.write.ensures) in
+    record { tied = c.run.ensures.tied; settles = b.0; worth = b.1 }
+
+pub returns-in_default : goal.returns-in_default
+returns-in_default g c =
+    let b = settled_begun (machine c.args.file.now) (g.O.Order.meaning c.args.order.now) (g.R.Record.meaning c.args.record.now) (g.R.Record.meaning c.run.new.record) c.args.sheet.now
+    (machine_of c.start-state.result) c.start-state.ensures.file (position c.start-state.result) c.start-state.ensures.position (position c.run.new.self) (Ok c.in_ok-answer.answer) c.in_ok-answer.ensures.ran
+    (length c.args.trail.now) (length c.args.frames.now) c.in_ok-refusal.ensures (over_file c.args.file.now) (g.O.Order.whole c.args.order.now) c.args.sheet.now (rw c.in_default.is refl) in
+    record { tied = c.run.ensures.tied; settles = b.0; worth = b.1 }

@@ -1,0 +1,14 @@
+use Rattle.std.proofs.Common.{ℕ, zero, suc, ◌≤◌, get_or, replicate, arith}
+use Rattle.std.proofs.lemmas.List.{take-replicate}
+use Rattle.scan.proofs.settings.Settings.new.Goals as goal
+
+twos : (m k : ℕ) → get_or (replicate m 2) k 0 ≤ 2
+twos zero k = omega arith
+twos (suc m) zero = omega arith
+twos (suc m) (suc k) = twos m k
+
+pub invariant_of-result : goal.invariant_of-result
+invariant_of-result c = (omega arith, twos 255)
+
+pub returns : goal.returns
+returns c = take-replicate c.args.n 255 2 (omega arith)

@@ -1,0 +1,90 @@
+ghost use Rattle.std.specs.Prelude.{◌≡◌, ℕ, ◌≤◌, length, slice_set};
+ghost use Rattle.model.specs.Clauses.{variable};
+ghost use Rattle.model.specs.Search.{entry, put_entry, value, make_true};
+ghost use Rattle.model.specs.Arguments.{unset};
+ghost use Rattle.clauses.specs.Sets.{code};
+ghost use Rattle.scan.specs.Settings.{Looks};
+
+use clauses::Literal;
+use std::marker::Model;
+
+// What each of n variables is set to, in the bytes that an order is asked with: 0 for off, 1 for on and 2 for unset.
+#[derive(Drop)]
+pub struct Settings {
+    bytes: [u8; 255],
+    n: u8,
+}
+
+impl Model for Settings {
+    ghost use Rattle.std.specs.Prelude.{ℕ, ◌≤◌, List, take};
+    ghost use Rattle.scan.specs.Settings.{EachSet};
+
+    ghost Value = { List ℕ };
+
+    ghost view = { λ s. take s.n s.bytes };
+
+    ghost invariant = { λ s. (s.n ≤ 255) × EachSet s.bytes };
+}
+
+impl Settings {
+    // n variables, each of them unset.
+    pub fn new(n: u8) -> Settings
+        ensures { result ≡ unset n }
+    {
+        Settings { bytes: [2; 255], n }
+    }
+
+    // What a variable is set to: 0 and those beyond the last are off.
+    fn entry(&self, variable: u32) -> u8
+        ensures entry { result ≡ entry self.now variable }
+        ensures low { result ≤ 2 }
+        ensures few { length self.now ≤ 255 }
+    {
+        if variable == 0 || variable > u32::from(self.n) {
+            return 0;
+        }
+        self.bytes[variable as usize - 1]
+    }
+
+    // Whether a literal is true, if its variable is set.
+    pub fn look(&self, literal: i32) -> Option<bool>
+        ensures looks { Looks (value self.now literal) result }
+        ensures few { length self.now ≤ 255 }
+    {
+        let off = literal < 0;
+        match self.entry(literal.unsigned_abs()) {
+            0 => Some(off),
+            1 => Some(!off),
+            _ => None,
+        }
+    }
+
+    // Sets a literal true; a variable beyond the last stays.
+    pub fn set(&mut self, t: Literal)
+        ensures { self.new ≡ make_true self.old (code t) }
+    {
+        self.put(t, u8::from(t.is_on()));
+    }
+
+    // Unsets the variable of a literal.
+    pub fn clear(&mut self, t: Literal)
+        ensures { self.new ≡ put_entry self.old (variable (code t)) 2 }
+    {
+        self.put(t, 2);
+    }
+
+    fn put(&mut self, t: Literal, setting: u8)
+        requires { setting ≤ 2 }
+        ensures { self.new ≡ slice_set self.old t.index setting }
+    {
+        if t.index() < self.n as usize {
+            self.bytes[t.index()] = setting;
+        }
+    }
+
+    pub fn bytes(&self) -> &[u8]
+        ensures { result.now ≡ self.now }
+    {
+        &self.bytes[..self.n as usize]
+    }
+}
