@@ -2,7 +2,7 @@
 #![tactic(auto)]
 
 use anyhow::anyhow;
-use reports::report;
+use reports::{NotSettled, report};
 use std::io::Read;
 
 // The longest text that is read.
@@ -17,11 +17,13 @@ fn main(rt: HostRuntime) -> anyhow::Result<()> {
         println!(rt; "declined: the text is longer than {MOST_BYTES} bytes")?;
         return Err(anyhow!("declined"));
     }
-    let printed = report(rt.alloc(), &text)?;
-    let lines = printed.lines.as_str();
-    print!(rt; "{lines}")?;
-    if printed.declined {
-        return Err(anyhow!("declined"));
+    match report(rt.alloc(), &text) {
+        Ok(lines) => print!(rt; "{lines}")?,
+        Err(NotSettled::Declined(lines)) => {
+            print!(rt; "{lines}")?;
+            return Err(anyhow!("declined"));
+        }
+        Err(NotSettled::Memory(e)) => return Err(e.into()),
     }
     Ok(())
 }
