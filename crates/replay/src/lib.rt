@@ -1,6 +1,9 @@
 // Replaying the life of a file: a list of calls in, the list of their replies out.
 #![tactic(auto)]
 
+ghost use Rattle.std.specs.Prelude.{◌≡◌};
+ghost use Rattle.replay.specs.declared.NotRehearsed.TheVariants.{Declined, Memory};
+
 use model::{Answer, Decline, ReadFault};
 use std::alloc::AllocError;
 
@@ -33,4 +36,20 @@ pub enum Reply {
 pub enum NotRehearsed {
     Declined(Decline),
     Memory(AllocError),
+}
+
+impl From<Decline> for NotRehearsed {
+    ghost from_gives = { λ d r. r ≡ Declined d };
+
+    fn from(d: Decline) -> NotRehearsed {
+        NotRehearsed::Declined(d)
+    }
+}
+
+impl From<AllocError> for NotRehearsed {
+    ghost from_gives = { λ e r. r ≡ Memory e };
+
+    fn from(e: AllocError) -> NotRehearsed {
+        NotRehearsed::Memory(e)
+    }
 }

@@ -1,7 +1,7 @@
 // All calls of a life.
-ghost use Rattle.std.specs.Prelude.{◌≡◌, List, [], ◌∷◌, map, length, vec_items};
+ghost use Rattle.std.specs.Prelude.{List, [], ◌∷◌, map, length, vec_items};
 ghost use Rattle.station.specs.Views.{machine};
-ghost use Rattle.replay.specs.Replays.{Replayed, Replied};
+ghost use Rattle.replay.specs.Replays.{Replied};
 
 use super::calls::make;
 use super::{Call, Reply};
@@ -10,26 +10,6 @@ use records::Record;
 use search::{Frame, Mark};
 use station::{Slip, StationFile};
 use std::alloc::{AllocError, Global};
-
-// Makes the calls in turn, and writes the reply to each.
-fn replay_into<O: Order, R: Record>(
-    file: &mut StationFile,
-    order: &O,
-    slips: &mut [Slip],
-    records: &mut [R],
-    sheet: &mut [u8],
-    trail: &mut [Mark],
-    frames: &mut [Frame],
-    calls: &[Call],
-    replies: &mut [Reply],
-)
-    requires { length replies.old ≡ length calls.now }
-    ensures { Replayed (O.Order.meaning order.now) (length trail.old ∷ length frames.old ∷ []) calls.now replies.new (machine file.old) slips.old (map R.Record.meaning records.old) sheet.old (machine file.new) slips.new (map R.Record.meaning records.new) sheet.new }
-{
-    for i in 0..calls.len() {
-        replies[i] = make(file, order, slips, records, sheet, trail, frames, calls[i]);
-    }
-}
 
 // Makes the calls in turn, and gives the reply to each. Where memory for the replies is wanting, no call is made.
 pub fn replay<O: Order, R: Record>(
@@ -45,17 +25,11 @@ pub fn replay<O: Order, R: Record>(
 ) -> Result<Vec<Reply>, AllocError>
     ensures { Replied vec_items (O.Order.meaning order.now) (length trail.old ∷ length frames.old ∷ []) calls.now result (machine file.old) slips.old (map R.Record.meaning records.old) sheet.old (machine file.new) slips.new (map R.Record.meaning records.new) sheet.new }
 {
-    let mut replies = vec![in heap; Reply::Missing; calls.len()]?;
-    replay_into(
-        file,
-        order,
-        slips,
-        records,
-        sheet,
-        trail,
-        frames,
-        calls,
-        &mut replies,
-    );
+    let mut replies = Vec::with_capacity(heap, calls.len())?;
+    for call in calls {
+        replies
+            .push(make(file, order, slips, records, sheet, trail, frames, *call))
+            .unwrap();
+    }
     Ok(replies)
 }
