@@ -1,5 +1,5 @@
 -- Calls without slips only add clauses, so that the trial around them can be closed and leaves the file as it was.
-use Rattle.std.proofs.Common.{◌≡◌, ℕ, List, [], ◌++◌, length, None, Ok, Err, Result, sym, refl, ◌∙◌, subst, arith}
+use Rattle.std.proofs.Common.{◌≡◌, ℕ, List, [], ◌++◌, None, Ok, Err, Result, sym, refl, ◌∙◌, subst, arith}
 use Rattle.model.specs.declared.Decline.{Decline}
 use Rattle.model.specs.Machine.{Machine, SlipState, blank, open_refusal, opened, Opens, close_refusal, Closes}
 use Rattle.model.specs.Settling.{OrderMeaning, RecordMeaning}
@@ -12,7 +12,7 @@ use Rattle.station.specs.declared.trials.Slip.{Slip}
 use Rattle.station.specs.Views.{machine, slip_state}
 use Rattle.replay.specs.declared.Call.{Call}
 use Rattle.replay.specs.declared.Reply.{Reply}
-use Rattle.replay.specs.Replays.{world_of, Makes, entering, reading, opening, closing, settling, no_slip_to_open, no_slip_to_close, no_record, Replays, done, then, Replayed, Replied}
+use Rattle.replay.specs.Replays.{world_of, Makes, entering, reading, opening, closing, settling, no_slip_to_open, no_slip_to_close, no_record, Replays, done, then, Replayed}
 
 module _ {o : OrderMeaning} {memory : List ℕ} {slips : ℕ} (none : slips ≡ 0) where
   -- an event of a call without slips

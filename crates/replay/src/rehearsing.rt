@@ -1,13 +1,13 @@
 // Calls that are tried and taken back.
-ghost use Rattle.std.specs.Prelude.{List, [], ◌∷◌, map, length, vec_items};
+ghost use Rattle.std.specs.Prelude.{map, vec_items};
 ghost use Rattle.station.specs.Views.{machine};
+ghost use Rattle.replay.specs.Desks.{stacks, Kept};
 ghost use Rattle.replay.specs.Rehearsals.{Rehearsed};
 
 use super::replaying::replay;
-use super::{Call, NotRehearsed, Reply};
+use super::{Call, Desk, NotRehearsed, Reply};
 use orders::Order;
 use records::Record;
-use search::{Frame, Mark};
 use station::{Slip, StationFile};
 use std::alloc::Global;
 
@@ -16,28 +16,15 @@ use std::alloc::Global;
 pub fn rehearse<O: Order, R: Record>(
     heap: Global,
     file: &mut StationFile,
-    order: &O,
-    records: &mut [R],
-    sheet: &mut [u8],
-    trail: &mut [Mark],
-    frames: &mut [Frame],
+    desk: &mut Desk<'_, O, R>,
     calls: &[Call],
 ) -> Result<Vec<Reply>, NotRehearsed>
-    ensures { Rehearsed vec_items (O.Order.meaning order.now) (length trail.old ∷ length frames.old ∷ []) calls.now result (machine file.old) (map R.Record.meaning records.old) sheet.old (machine file.new) (map R.Record.meaning records.new) sheet.new }
+    ensures kept { Kept desk.old desk.new }
+    ensures rehearsed { Rehearsed vec_items (O.Order.meaning desk.old.order.now) (stacks desk.old) calls.now result (machine file.old) (map R.Record.meaning desk.old.records.now) desk.old.sheet.now (machine file.new) (map R.Record.meaning desk.new.records.now) desk.new.sheet.now }
 {
     let mut slip = Slip::blank();
     file.open(&mut slip)?;
-    let replies = replay(
-        heap,
-        file,
-        order,
-        &mut [],
-        records,
-        sheet,
-        trail,
-        frames,
-        calls,
-    );
+    let replies = replay(heap, file, &mut [], desk, calls);
     let _ = file.close(&mut slip);
     Ok(replies?)
 }

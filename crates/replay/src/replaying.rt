@@ -1,13 +1,13 @@
 // All calls of a life.
-ghost use Rattle.std.specs.Prelude.{List, [], ◌∷◌, map, length, vec_items};
+ghost use Rattle.std.specs.Prelude.{map, vec_items};
 ghost use Rattle.station.specs.Views.{machine};
+ghost use Rattle.replay.specs.Desks.{stacks, Kept};
 ghost use Rattle.replay.specs.Replays.{Replied};
 
 use super::calls::make;
-use super::{Call, Reply};
+use super::{Call, Desk, Reply};
 use orders::Order;
 use records::Record;
-use search::{Frame, Mark};
 use station::{Slip, StationFile};
 use std::alloc::{AllocError, Global};
 
@@ -15,21 +15,16 @@ use std::alloc::{AllocError, Global};
 pub fn replay<O: Order, R: Record>(
     heap: Global,
     file: &mut StationFile,
-    order: &O,
     slips: &mut [Slip],
-    records: &mut [R],
-    sheet: &mut [u8],
-    trail: &mut [Mark],
-    frames: &mut [Frame],
+    desk: &mut Desk<'_, O, R>,
     calls: &[Call],
 ) -> Result<Vec<Reply>, AllocError>
-    ensures { Replied vec_items (O.Order.meaning order.now) (length trail.old ∷ length frames.old ∷ []) calls.now result (machine file.old) slips.old (map R.Record.meaning records.old) sheet.old (machine file.new) slips.new (map R.Record.meaning records.new) sheet.new }
+    ensures kept { Kept desk.old desk.new }
+    ensures replied { Replied vec_items (O.Order.meaning desk.old.order.now) (stacks desk.old) calls.now result (machine file.old) slips.old (map R.Record.meaning desk.old.records.now) desk.old.sheet.now (machine file.new) slips.new (map R.Record.meaning desk.new.records.now) desk.new.sheet.now }
 {
     let mut replies = Vec::with_capacity(heap, calls.len())?;
     for call in calls {
-        replies
-            .push(make(file, order, slips, records, sheet, trail, frames, *call))
-            .unwrap();
+        replies.push(make(file, slips, desk, *call)).unwrap();
     }
     Ok(replies)
 }
