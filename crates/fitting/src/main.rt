@@ -1,7 +1,7 @@
 // fitting: reads a rule text from standard input and prints a fit-out that obeys every rule, or the argument that there is none.
 #![tactic(auto)]
 
-use anyhow::anyhow;
+use anyhow::bail;
 use reports::{NotSettled, report};
 use std::io::Read;
 
@@ -15,13 +15,13 @@ fn main(rt: HostRuntime) -> anyhow::Result<()> {
         .read_to_end(&mut text)?;
     if text.len() > MOST_BYTES {
         println!(rt; "declined: the text is longer than {MOST_BYTES} bytes")?;
-        return Err(anyhow!("declined"));
+        bail!("declined");
     }
     match report(rt.alloc(), &text) {
         Ok(lines) => print!(rt; "{lines}")?,
         Err(NotSettled::Declined(lines)) => {
             print!(rt; "{lines}")?;
-            return Err(anyhow!("declined"));
+            bail!("declined");
         }
         Err(NotSettled::Memory(e)) => return Err(e.into()),
     }

@@ -1,7 +1,7 @@
 // Lives of a file, replayed call by call.
 #![tactic(auto)]
 
-use anyhow::anyhow;
+use anyhow::{bail, ensure};
 use orders::by_number::ByNumber;
 use records::silent::Silent;
 use replay::rehearsing::rehearse;
@@ -22,9 +22,7 @@ fn print_replies(rt: &HostRuntime, name: &str, replies: &[Reply]) -> anyhow::Res
 // there are part of it.
 fn live(rt: &HostRuntime) -> anyhow::Result<()> {
     let mut file = StationFile::new();
-    if file.start(2, 7).is_err() {
-        return Err(anyhow!("the start was declined"));
-    }
+    ensure!(file.start(2, 7).is_ok(), "the start was declined");
     let order = ByNumber::new(2);
     let mut records = [Silent, Silent];
     let mut sheet = [9u8, 9, 9];
@@ -53,7 +51,7 @@ fn live(rt: &HostRuntime) -> anyhow::Result<()> {
     ];
     match rehearse(rt.alloc(), &mut file, &mut desk, &tried) {
         Ok(replies) => print_replies(rt, "two more, rehearsed", &replies)?,
-        Err(NotRehearsed::Declined(_)) => return Err(anyhow!("the trial was declined")),
+        Err(NotRehearsed::Declined(_)) => bail!("the trial was declined"),
         Err(NotRehearsed::Memory(e)) => return Err(e.into()),
     }
     let again = [
