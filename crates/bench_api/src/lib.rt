@@ -16,7 +16,8 @@ use search::{Frame, Mark};
 use station::StationFile;
 use texts::problems::variables_of;
 
-// Keeps nothing and has no end, as the silent record does, and counts the steps that are put.
+// Keeps nothing and has no end, as the silent record does, and counts the steps that are put. It is a record of its own, since one around the silent record
+// would have each of these methods too, as a call of the other's.
 #[derive(Drop)]
 struct Counted {
     steps: u64,
@@ -33,8 +34,7 @@ impl Record for Counted {
 
     ghost limits = { λ _ k. absurd (false≢true k) };
 
-    fn put(&mut self, step: Step) -> Result<(), Decline> {
-        let _ = step;
+    fn put(&mut self, _step: Step) -> Result<(), Decline> {
         self.steps = self.steps.saturating_add(1);
         Ok(())
     }
@@ -47,13 +47,12 @@ impl Record for Counted {
         0
     }
 
-    fn look(&self, k: usize) -> Option<Step> {
-        let _ = k;
+    fn look(&self, _k: usize) -> Option<Step> {
         None
     }
 }
 
-// How a file was settled, or its argument checked: 0 declined, 1 fits, 2 cannot; and in how many steps.
+// How a file was settled, or its argument checked: 0 declined, 1 fits, 2 cannot; and in how many steps. C reads the answer, so that it is a number.
 #[repr(C)]
 #[derive(Drop)]
 pub struct Outcome {
@@ -82,21 +81,25 @@ pub extern "C" fn tallowspan_read(text: &[u8], times: u32) -> u32 {
 }
 
 // Settles a file so many times, with the order by number, and answers the last outcome.
-fn settled(
-    file: &StationFile,
-    times: u32,
-    sheet: &mut [u8],
-    trail: &mut [Mark],
-    frames: &mut [Frame],
-) -> Outcome {
+fn settled(file: &StationFile, times: u32) -> Outcome {
     let order = ByNumber::new(file.variables() as u32);
+    let mut sheet = [0u8; 200];
+    let mut trail = [Mark::blank(); 200];
+    let mut frames = [Frame::blank(); 200];
     let mut outcome = Outcome {
         answer: 0,
         steps: 0,
     };
     for _ in 0..times {
         let mut record = Counted { steps: 0 };
-        outcome.answer = match settle(file, &order, &mut record, sheet, trail, frames) {
+        outcome.answer = match settle(
+            file,
+            &order,
+            &mut record,
+            &mut sheet,
+            &mut trail,
+            &mut frames,
+        ) {
             Err(_) => 0,
             Ok(Answer::Fits) => 1,
             Ok(Answer::Cannot(_)) => 2,
@@ -109,10 +112,7 @@ fn settled(
 // Reads a text once and settles it so many times.
 #[unsafe(no_mangle)]
 pub extern "C" fn tallowspan_settle(text: &[u8], times: u32, outcome: &mut Outcome) {
-    let mut sheet = [0u8; 200];
-    let mut trail = [Mark::blank(); 200];
-    let mut frames = [Frame::blank(); 200];
-    *outcome = settled(&file_of(text), times, &mut sheet, &mut trail, &mut frames);
+    *outcome = settled(&file_of(text), times);
 }
 
 // Checks an argument so many times, and answers the last outcome.

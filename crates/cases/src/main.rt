@@ -1,11 +1,13 @@
 // Cabinets worked by hand: what `fitting` prints of each is held to the stored output.
 #![tactic(auto)]
 
-use reports::report;
+use reports::{NotSettled, report};
 
 fn show(rt: &HostRuntime, name: &str, text: &[u8]) -> anyhow::Result<()> {
-    let printed = report(rt.alloc(), text)?;
-    let lines = printed.lines.as_str();
+    let lines = match report(rt.alloc(), text) {
+        Ok(lines) | Err(NotSettled::Declined(lines)) => lines,
+        Err(NotSettled::Memory(e)) => return Err(e.into()),
+    };
     print!(rt; "{name}\n{lines}")?;
     Ok(())
 }

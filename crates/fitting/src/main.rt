@@ -1,8 +1,8 @@
 // fitting: reads a rule text from standard input and prints a fit-out that obeys every rule, or the argument that there is none.
 #![tactic(auto)]
 
-use anyhow::anyhow;
-use reports::report;
+use anyhow::bail;
+use reports::{NotSettled, report};
 use std::io::Read;
 
 // The longest text that is read.
@@ -15,13 +15,15 @@ fn main(rt: HostRuntime) -> anyhow::Result<()> {
         .read_to_end(&mut text)?;
     if text.len() > MOST_BYTES {
         println!(rt; "declined: the text is longer than {MOST_BYTES} bytes")?;
-        return Err(anyhow!("declined"));
+        bail!("declined");
     }
-    let printed = report(rt.alloc(), &text)?;
-    let lines = printed.lines.as_str();
-    print!(rt; "{lines}")?;
-    if printed.declined {
-        return Err(anyhow!("declined"));
+    match report(rt.alloc(), &text) {
+        Ok(lines) => print!(rt; "{lines}")?,
+        Err(NotSettled::Declined(lines)) => {
+            print!(rt; "{lines}")?;
+            bail!("declined");
+        }
+        Err(NotSettled::Memory(e)) => return Err(e.into()),
     }
     Ok(())
 }

@@ -1,12 +1,12 @@
 // Lives of a file, replayed call by call.
 #![tactic(auto)]
 
-use anyhow::anyhow;
+use anyhow::{bail, ensure};
 use orders::by_number::ByNumber;
 use records::silent::Silent;
 use replay::rehearsing::rehearse;
 use replay::replaying::replay;
-use replay::{Call, NotRehearsed, Reply};
+use replay::{Call, Desk, NotRehearsed, Reply};
 use search::{Frame, Mark};
 use station::StationFile;
 
@@ -22,31 +22,26 @@ fn print_replies(rt: &HostRuntime, name: &str, replies: &[Reply]) -> anyhow::Res
 // there are part of it.
 fn live(rt: &HostRuntime) -> anyhow::Result<()> {
     let mut file = StationFile::new();
-    if file.start(2, 7).is_err() {
-        return Err(anyhow!("the start was declined"));
-    }
+    ensure!(file.start(2, 7).is_ok(), "the start was declined");
     let order = ByNumber::new(2);
     let mut records = [Silent, Silent];
     let mut sheet = [9u8, 9, 9];
     let mut trail = [Mark::blank(), Mark::blank()];
     let mut frames = [Frame::blank(), Frame::blank()];
+    let mut desk = Desk {
+        order: &order,
+        records: &mut records,
+        sheet: &mut sheet,
+        trail: &mut trail,
+        frames: &mut frames,
+    };
     let entered = [
         Call::Enter(&[1, 2]),
         Call::Enter(&[1, -2]),
         Call::Enter(&[3]),
         Call::Settle(0),
     ];
-    let replies = replay(
-        rt.alloc(),
-        &mut file,
-        &order,
-        &mut [],
-        &mut records,
-        &mut sheet,
-        &mut trail,
-        &mut frames,
-        &entered,
-    )?;
+    let replies = replay(rt.alloc(), &mut file, &mut [], &mut desk, &entered)?;
     print_replies(rt, "a life: two rules, one declined, settled", &replies)?;
     let tried = [
         Call::Read(b"p cnf 2 2\n-1 2 0\n-1 -2 0\n"),
@@ -54,18 +49,9 @@ fn live(rt: &HostRuntime) -> anyhow::Result<()> {
         Call::Close(0),
         Call::Settle(2),
     ];
-    match rehearse(
-        rt.alloc(),
-        &mut file,
-        &order,
-        &mut records,
-        &mut sheet,
-        &mut trail,
-        &mut frames,
-        &tried,
-    ) {
+    match rehearse(rt.alloc(), &mut file, &mut desk, &tried) {
         Ok(replies) => print_replies(rt, "two more, rehearsed", &replies)?,
-        Err(NotRehearsed::Declined(_)) => return Err(anyhow!("the trial was declined")),
+        Err(NotRehearsed::Declined(_)) => bail!("the trial was declined"),
         Err(NotRehearsed::Memory(e)) => return Err(e.into()),
     }
     let again = [
@@ -73,17 +59,7 @@ fn live(rt: &HostRuntime) -> anyhow::Result<()> {
         Call::Read(b"p cnf 2 1\n1 x\n"),
         Call::Enter(&[2, 2, 2]),
     ];
-    let replies = replay(
-        rt.alloc(),
-        &mut file,
-        &order,
-        &mut [],
-        &mut records,
-        &mut sheet,
-        &mut trail,
-        &mut frames,
-        &again,
-    )?;
+    let replies = replay(rt.alloc(), &mut file, &mut [], &mut desk, &again)?;
     print_replies(rt, "and after it, as before", &replies)?;
     println!(rt; "the sheet {sheet:?}")?;
     Ok(())

@@ -11,37 +11,34 @@ use station::StationFile;
 use std::{env, fs};
 use texts::problems::variables_of;
 
-// The first word of the answer to a text.
-fn answer_to(text: &[u8]) -> &'static str {
+// The answer to a text, None where it is declined.
+fn answer_to(text: &[u8]) -> Option<Answer> {
+    let n = variables_of(text)?;
     let mut file = StationFile::new();
-    let Some(n) = variables_of(text) else {
-        return "declined";
-    };
-    if file.start(n, 1).is_err() || file.read(text).is_err() {
-        return "declined";
-    }
-    let order = ByNumber::new(n);
+    file.start(n, 1).ok()?;
+    file.read(text).ok()?;
     let mut sheet = [0u8; 200];
     let mut trail = [Mark::blank(); 200];
     let mut frames = [Frame::blank(); 200];
-    match settle(
+    settle(
         &file,
-        &order,
+        &ByNumber::new(n),
         &mut Silent,
         &mut sheet,
         &mut trail,
         &mut frames,
-    ) {
-        Err(_) => "declined",
-        Ok(Answer::Fits) => "fits",
-        Ok(Answer::Cannot(_)) => "cannot",
-    }
+    )
+    .ok()
 }
 
 fn main(rt: HostRuntime) -> anyhow::Result<()> {
     for name in env::args(&rt)?.skip(1) {
         let text = fs::read(&rt, name.as_str())?;
-        let answer = answer_to(&text);
+        let answer = match answer_to(&text) {
+            None => "declined",
+            Some(Answer::Fits) => "fits",
+            Some(Answer::Cannot(_)) => "cannot",
+        };
         println!(rt; "{name} {answer}")?;
     }
     Ok(())

@@ -3,7 +3,7 @@ use Rattle.std.proofs.Common.{◌≡◌, ℕ, zero, suc, ◌+◌, ◌<◌, ◌�
 use mathlib.Core.Path.{fun_ext}
 use lib.ListN.{length-map}
 use Rattle.std.specs.List.{slice_get}
-use Rattle.std.proofs.lemmas.List.{take_all, take_more}
+use Rattle.std.proofs.lemmas.List.{take_more}
 use Rattle.std.proofs.lemmas.Bool.{cases_eq, eq-eqb, ne_eqb}
 use Rattle.model.specs.declared.Decline.{Decline}
 use Rattle.model.specs.declared.Answer.{Answer}
@@ -19,6 +19,8 @@ use Rattle.replay.specs.declared.Call.{Call}
 use Rattle.replay.specs.declared.Call.TheVariants.{Enter, Read, Settle}
 use Rattle.replay.specs.declared.Reply.{Reply}
 use Rattle.replay.specs.declared.Reply.TheVariants.{Entered, Taken, Settled, Missing}
+use Rattle.replay.specs.declared.Desk.{Desk}
+use Rattle.replay.specs.Desks.{Kept}
 use Rattle.replay.specs.Replays.{slip_at, world_of, Makes, entering, reading, settling, no_record, Replays, done, then, Made, Replayed}
 
 module _ {A : Type 0} where
@@ -38,11 +40,6 @@ module _ {A : Type 0} where
   nth_get_or [] i d h = absurd (omega arith)
   nth_get_or (x ∷ xs) zero d h = refl
   nth_get_or (x ∷ xs) (suc i) d h = nth_get_or xs i d (omega arith)
-
-  take_set : (xs : List A) (i : ℕ) (y : A) → i < length xs → take (suc i) (set xs i y) ≡ take i xs ++ (y ∷ [])
-  take_set [] i y h = absurd (omega arith)
-  take_set (x ∷ xs) zero y h = refl
-  take_set (x ∷ xs) (suc i) y h = ap (λ (ys : List A). x ∷ ys) (take_set xs i y (omega arith))
 
   pub nth_map : {B : Type 0} (f : A → B) (xs : List A) (i : ℕ) (x : A) → slice_get xs i ≡ Some x → slice_get (map f xs) i ≡ Some (f x)
   nth_map f [] i x e = absurd (let z : ◌≡◌ {A = ℕ} 0 1 = cc in omega arith)
@@ -120,28 +117,25 @@ module _ {o : OrderMeaning} {memory : List ℕ} {slips : ℕ} where
   replays_more {recs₂ = recs₂} {sheet₂ = sheet₂} {fs = fs} {c = d} {r = q} (then {c = c} {r = r} {cs = cs} {rs = rs} {recs = recs} {sheet = sheet} {es = es} {fs = gs} x p) m =
       subst (λ (hs : List Event). Replays o memory slips (c ∷ (cs ++ (d ∷ []))) (r ∷ (rs ++ (q ∷ []))) recs sheet hs recs₂ sheet₂) (sym (append_assoc es gs fs)) (then x (replays_more p m))
 
-pub replayed_more : (o : OrderMeaning) (memory memory₁ : List ℕ) (cs : List Call) (rs : List Reply) (i : ℕ) (d : Call) (r : Reply) (m m₁ m₂ : Machine) (xs xs₁ xs₂ : List Slip)
-    (recs recs₁ recs₂ : List RecordMeaning) (sheet sheet₁ sheet₂ : List ℕ) → memory₁ ≡ memory → length xs₁ ≡ length xs → i < length cs → i < length rs
-    → Replayed o memory (take i cs) (take i rs) m xs recs sheet m₁ xs₁ recs₁ sheet₁ → Made o memory₁ (get_or cs i d) r m₁ xs₁ recs₁ sheet₁ m₂ xs₂ recs₂ sheet₂
-    → Replayed o memory (take (i + 1) cs) (take (i + 1) (set rs i r)) m xs recs sheet m₂ xs₂ recs₂ sheet₂
-replayed_more o memory memory₁ cs rs i d r m m₁ m₂ xs xs₁ xs₂ recs recs₁ recs₂ sheet sheet₁ sheet₂ em ex hc hr p q =
-    let c = get_or cs i d in
-    let made : Makes o memory (length xs) c r recs₁ sheet₁ q.0 recs₂ sheet₂ =
-    subst (λ (k : ℕ). Makes o memory k c r recs₁ sheet₁ q.0 recs₂ sheet₂) ex (subst (λ (l : List ℕ). Makes o l (length xs₁) c r recs₁ sheet₁ q.0 recs₂ sheet₂) em q.1) in
-    let one : i + 1 ≡ suc i = omega arith in
-    let ec : take i cs ++ (c ∷ []) ≡ take (i + 1) cs = sym (take_more cs i d hc) in
-    let er : take i rs ++ (r ∷ []) ≡ take (i + 1) (set rs i r) = sym (ap (λ (k : ℕ). take k (set rs i r)) one ∙ take_set rs i r hr) in (
+pub replayed_more : (o o₁ : OrderMeaning) (memory memory₁ : List ℕ) (cs : List Call) (rs : List Reply) (i : ℕ) (d : Call) (r : Reply) (m m₁ m₂ : Machine) (xs xs₁ xs₂ : List Slip)
+    (recs recs₁ recs₂ : List RecordMeaning) (sheet sheet₁ sheet₂ : List ℕ) → o₁ ≡ o → memory₁ ≡ memory → length xs₁ ≡ length xs → i < length cs
+    → Replayed o memory (take i cs) rs m xs recs sheet m₁ xs₁ recs₁ sheet₁ → Made o₁ memory₁ (get_or cs i d) r m₁ xs₁ recs₁ sheet₁ m₂ xs₂ recs₂ sheet₂
+    → Replayed o memory (take (i + 1) cs) (rs ++ (r ∷ [])) m xs recs sheet m₂ xs₂ recs₂ sheet₂
+replayed_more o o₁ memory memory₁ cs rs i d r m m₁ m₂ xs xs₁ xs₂ recs recs₁ recs₂ sheet sheet₁ sheet₂ eo em ex hc p q =
+    let made : Makes o memory (length xs) (get_or cs i d) r recs₁ sheet₁ q.0 recs₂ sheet₂ = rw (← eo, ← em, ← ex) q.1 in (
       p.0 ++ q.0,
-      subst (λ (us : List Reply). Replays o memory (length xs) (take (i + 1) cs) us recs sheet (p.0 ++ q.0) recs₂ sheet₂) er
-          (subst (λ (us : List Call). Replays o memory (length xs) us (take i rs ++ (r ∷ [])) recs sheet (p.0 ++ q.0) recs₂ sheet₂) ec (replays_more p.1 made)),
+      rw (take_more cs i d hc) (replays_more p.1 made),
       run_join p.2 q.2,
     )
 
-pub replayed_all : (o : OrderMeaning) (memory : List ℕ) (cs : List Call) (rs : List Reply) (i : ℕ) (m m₁ : Machine) (xs xs₁ : List Slip) (recs recs₁ : List RecordMeaning) (sheet sheet₁ : List ℕ)
-    → length cs ≤ i → length rs ≡ length cs → Replayed o memory (take i cs) (take i rs) m xs recs sheet m₁ xs₁ recs₁ sheet₁ → Replayed o memory cs rs m xs recs sheet m₁ xs₁ recs₁ sheet₁
-replayed_all o memory cs rs i m m₁ xs xs₁ recs recs₁ sheet sheet₁ h e p = (
-  p.0,
-  subst (λ (us : List Reply). Replays o memory (length xs) cs us recs sheet p.0 recs₁ sheet₁) (take_all i rs (omega arith))
-      (subst (λ (us : List Call). Replays o memory (length xs) us (take i rs) recs sheet p.0 recs₁ sheet₁) (take_all i cs h) p.1),
-  p.2,
-)
+pub kept_joins : {O R : Type 0} (a b c : Desk O R) → Kept a b → Kept b c → Kept a c
+kept_joins a b c p q = record {
+  order = q.order ∙ p.order;
+  records = q.records ∙ p.records;
+  sheet = q.sheet ∙ p.sheet;
+  trail = q.trail ∙ p.trail;
+  frames = q.frames ∙ p.frames;
+  many_records = q.many_records ∙ p.many_records;
+  wide = q.wide ∙ p.wide;
+  room = q.room ∙ p.room;
+}

@@ -1,5 +1,5 @@
 -- Calls without slips only add clauses, so that the trial around them can be closed and leaves the file as it was.
-use Rattle.std.proofs.Common.{◌≡◌, ℕ, List, [], ◌++◌, length, None, Ok, Err, Result, sym, refl, ◌∙◌, subst, arith}
+use Rattle.std.proofs.Common.{◌≡◌, ℕ, List, [], ◌++◌, None, Ok, Err, Result, sym, refl, ◌∙◌, subst, arith}
 use Rattle.model.specs.declared.Decline.{Decline}
 use Rattle.model.specs.Machine.{Machine, SlipState, blank, open_refusal, opened, Opens, close_refusal, Closes}
 use Rattle.model.specs.Settling.{OrderMeaning, RecordMeaning}
@@ -12,7 +12,7 @@ use Rattle.station.specs.declared.trials.Slip.{Slip}
 use Rattle.station.specs.Views.{machine, slip_state}
 use Rattle.replay.specs.declared.Call.{Call}
 use Rattle.replay.specs.declared.Reply.{Reply}
-use Rattle.replay.specs.Replays.{world_of, Makes, entering, reading, opening, closing, settling, no_slip_to_open, no_slip_to_close, no_record, Replays, done, then, Replayed, Replied}
+use Rattle.replay.specs.Replays.{world_of, Makes, entering, reading, opening, closing, settling, no_slip_to_open, no_slip_to_close, no_record, Replays, done, then, Replayed}
 
 module _ {o : OrderMeaning} {memory : List ℕ} {slips : ℕ} (none : slips ≡ 0) where
   -- an event of a call without slips
@@ -55,17 +55,11 @@ taken_back m m₁ m₂ m₃ s₀ s₁ s₂ u b e o l c = by b c
     by (Ok v) c = record { allowed = free; inside = o.0.2; same = c.0.2 ∙ trial_leaves m m₂ longer; is_blank = c.1.2 }
     by (Err d) c = absurd (let h = sym c.0.0 ∙ closes_now in let z : ◌≡◌ {A = ℕ} 0 1 = cc in omega arith)
 
-replayed_longer : (o : OrderMeaning) (memory : List ℕ) (cs : List Call) (rs : List Reply) (m m' : Machine) (xs xs' : List Slip) (recs recs' : List RecordMeaning) (sheet sheet' : List ℕ)
-    → length xs ≡ 0 → Replayed o memory cs rs m xs recs sheet m' xs' recs' sheet' → Longer m m'
-unfolding world_of
-replayed_longer o memory cs rs m m' xs xs' recs recs' sheet sheet' e p = calls_longer e p.1 p.2
-
--- the same of a file and a slip, where the calls were replayed without slips, or not at all
-pub rehearsed_back : {V E : Type 0} (items : V → List Reply) (o : OrderMeaning) (memory : List ℕ) (cs : List Call) (r : Result V E) (f₀ f₁ f₂ f₃ : StationFile) (p₀ p₁ p₂ : Slip) (xs' : List Slip) (recs recs' : List RecordMeaning) (sheet sheet' : List ℕ)
+-- the same of a file and a slip, where the calls were replayed without slips
+pub rehearsed_back : (o : OrderMeaning) (memory : List ℕ) (cs : List Call) (rs : List Reply) (f₀ f₁ f₂ f₃ : StationFile) (p₀ p₁ p₂ : Slip) (xs' : List Slip) (recs recs' : List RecordMeaning) (sheet sheet' : List ℕ)
     (u : Unit {0}) (b : Result (Unit {0}) Decline) → slip_state p₀ ≡ blank → Opens (machine f₀) (slip_state p₀) (machine f₁) (slip_state p₁) (Ok u)
-    → Replied items o memory cs r (machine f₁) [] recs sheet (machine f₂) xs' recs' sheet' → Closes (machine f₂) (slip_state p₁) (machine f₃) (slip_state p₂) b
+    → Replayed o memory cs rs (machine f₁) [] recs sheet (machine f₂) xs' recs' sheet' → Closes (machine f₂) (slip_state p₁) (machine f₃) (slip_state p₂) b
     → Back (machine f₀) (machine f₁) (machine f₃) (slip_state p₂)
-rehearsed_back items o memory cs (Ok rs) f₀ f₁ f₂ f₃ p₀ p₁ p₂ xs' recs recs' sheet sheet' u b e op re cl =
-    taken_back (machine f₀) (machine f₁) (machine f₂) (machine f₃) (slip_state p₀) (slip_state p₁) (slip_state p₂) u b e op (replayed_longer o memory cs (items rs) (machine f₁) (machine f₂) [] xs' recs recs' sheet sheet' refl re) cl
-rehearsed_back items o memory cs (Err d) f₀ f₁ f₂ f₃ p₀ p₁ p₂ xs' recs recs' sheet sheet' u b e op re cl =
-    taken_back (machine f₀) (machine f₁) (machine f₂) (machine f₃) (slip_state p₀) (slip_state p₁) (slip_state p₂) u b e op (same_longer (machine f₁) (machine f₂) re.0) cl
+unfolding world_of
+rehearsed_back o memory cs rs f₀ f₁ f₂ f₃ p₀ p₁ p₂ xs' recs recs' sheet sheet' u b e op re cl =
+    taken_back (machine f₀) (machine f₁) (machine f₂) (machine f₃) (slip_state p₀) (slip_state p₁) (slip_state p₂) u b e op (calls_longer refl re.1 re.2) cl

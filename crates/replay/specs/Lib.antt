@@ -1,2 +1,3 @@
 pub mod Replays
 pub mod Rehearsals
+pub mod Desks

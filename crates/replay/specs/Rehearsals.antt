@@ -1,6 +1,5 @@
 -- What a rehearsal replies and leaves: the calls are made in a trial of their own, which is closed again.
 use Rattle.std.specs.Prelude.{◌≡◌, ℕ, List, [], Some, None, Ok, Err, Result}
-use Rattle.model.specs.declared.Decline.{Decline}
 use Rattle.model.specs.Machine.{Machine, blank, open_refusal, opened}
 use Rattle.model.specs.Settling.{OrderMeaning, RecordMeaning}
 use Rattle.station.specs.declared.trials.Slip.{Slip}
@@ -8,15 +7,9 @@ use Rattle.replay.specs.declared.Call.{Call}
 use Rattle.replay.specs.declared.Reply.{Reply}
 use Rattle.replay.specs.declared.NotRehearsed.{NotRehearsed}
 use Rattle.replay.specs.declared.NotRehearsed.TheVariants.{Declined, Memory}
-use Rattle.replay.specs.Replays.{Replayed, Replied}
+use Rattle.replay.specs.Replays.{Replayed}
 
 -- a trial can be opened, the calls are replayed in it without slips, and the file is left as it was; else nothing changes
-abbrev pub InTrial : {V E : Type 0} → (V → List Reply) → OrderMeaning → List ℕ → List Call → Result (Result V E) Decline → Machine → List RecordMeaning → List ℕ → Machine → List RecordMeaning → List ℕ → Type 0
-InTrial items o memory cs (Ok r) m recs sheet m' recs' sheet' =
-    (open_refusal m blank ≡ None) × (m' ≡ m) × ((n : Machine) × (xs : List Slip) × Replied items o memory cs r (opened m) [] recs sheet n xs recs' sheet')
-InTrial items o memory cs (Err d) m recs sheet m' recs' sheet' = (open_refusal m blank ≡ Some d) × (m' ≡ m) × (recs' ≡ recs) × (sheet' ≡ sheet)
-
--- the same, with a case for each way out
 abbrev pub Rehearsed : {V : Type 0} → (V → List Reply) → OrderMeaning → List ℕ → List Call → Result V NotRehearsed → Machine → List RecordMeaning → List ℕ → Machine → List RecordMeaning → List ℕ → Type 0
 Rehearsed items o memory cs (Ok rs) m recs sheet m' recs' sheet' =
     (open_refusal m blank ≡ None) × (m' ≡ m) × ((n : Machine) × (xs : List Slip) × Replayed o memory cs (items rs) (opened m) [] recs sheet n xs recs' sheet')

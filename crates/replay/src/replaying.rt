@@ -1,61 +1,30 @@
 // All calls of a life.
-ghost use Rattle.std.specs.Prelude.{◌≡◌, List, [], ◌∷◌, map, length, vec_items};
+ghost use Rattle.std.specs.Prelude.{map, vec_items};
 ghost use Rattle.station.specs.Views.{machine};
-ghost use Rattle.replay.specs.Replays.{Replayed, Replied};
+ghost use Rattle.replay.specs.Desks.{stacks, Kept};
+ghost use Rattle.replay.specs.Replays.{Replied};
 
 use super::calls::make;
-use super::{Call, Reply};
+use super::{Call, Desk, Reply};
 use orders::Order;
 use records::Record;
-use search::{Frame, Mark};
 use station::{Slip, StationFile};
 use std::alloc::{AllocError, Global};
-
-// Makes the calls in turn, and writes the reply to each.
-fn replay_into<O: Order, R: Record>(
-    file: &mut StationFile,
-    order: &O,
-    slips: &mut [Slip],
-    records: &mut [R],
-    sheet: &mut [u8],
-    trail: &mut [Mark],
-    frames: &mut [Frame],
-    calls: &[Call],
-    replies: &mut [Reply],
-)
-    requires { length replies.old ≡ length calls.now }
-    ensures { Replayed (O.Order.meaning order.now) (length trail.old ∷ length frames.old ∷ []) calls.now replies.new (machine file.old) slips.old (map R.Record.meaning records.old) sheet.old (machine file.new) slips.new (map R.Record.meaning records.new) sheet.new }
-{
-    for i in 0..calls.len() {
-        replies[i] = make(file, order, slips, records, sheet, trail, frames, calls[i]);
-    }
-}
 
 // Makes the calls in turn, and gives the reply to each. Where memory for the replies is wanting, no call is made.
 pub fn replay<O: Order, R: Record>(
     heap: Global,
     file: &mut StationFile,
-    order: &O,
     slips: &mut [Slip],
-    records: &mut [R],
-    sheet: &mut [u8],
-    trail: &mut [Mark],
-    frames: &mut [Frame],
+    desk: &mut Desk<'_, O, R>,
     calls: &[Call],
 ) -> Result<Vec<Reply>, AllocError>
-    ensures { Replied vec_items (O.Order.meaning order.now) (length trail.old ∷ length frames.old ∷ []) calls.now result (machine file.old) slips.old (map R.Record.meaning records.old) sheet.old (machine file.new) slips.new (map R.Record.meaning records.new) sheet.new }
+    ensures kept { Kept desk.old desk.new }
+    ensures replied { Replied vec_items (O.Order.meaning desk.old.order.now) (stacks desk.old) calls.now result (machine file.old) slips.old (map R.Record.meaning desk.old.records.now) desk.old.sheet.now (machine file.new) slips.new (map R.Record.meaning desk.new.records.now) desk.new.sheet.now }
 {
-    let mut replies = vec![in heap; Reply::Missing; calls.len()]?;
-    replay_into(
-        file,
-        order,
-        slips,
-        records,
-        sheet,
-        trail,
-        frames,
-        calls,
-        &mut replies,
-    );
+    let mut replies = Vec::with_capacity(heap, calls.len())?;
+    for call in calls {
+        replies.push(make(file, slips, desk, *call)).unwrap();
+    }
     Ok(replies)
 }

@@ -1,30 +1,26 @@
--- What the walk over a text needs: at a byte 10, past another byte, and at the end.
-use Rattle.std.proofs.Common.{◌≡◌, ℕ, ◌+◌, ◌<◌, ◌≤◌, eqb, ◌≢◌, List, length, get_or, drop, sym, ap, ◌∙◌}
-use Rattle.std.proofs.lemmas.List.{drop_more, drop_all}
-use Rattle.std.proofs.lemmas.Bool.{ne_eqb, cond-false}
+-- The line ends of a text as a count, and the bytes after the last of them as counted from its end.
+use Rattle.std.proofs.Common.{◌≡◌, ℕ, ◌+◌, Bool, true, false, not, cond, ◌==◌, List, [], ◌∷◌, ◌++◌, length, reverse, refl, sym, ap, ◌∙◌, add_comm, append_assoc, append-nil}
+use Rattle.std.proofs.lemmas.List.{reverse-append}
+use Rattle.std.proofs.lemmas.List.Recursion.{is_count_by}
+use Rattle.std.proofs.lemmas.List.Folds.{length-prefix_len}
+use Rattle.std.specs.List.{count_by, prefix_len, take_while}
 use Rattle.reports.specs.Places.{line_ends, since_end}
 
-pub ends_at : (w : List ℕ) (i : ℕ) → i < length w → get_or w i 0 ≡ 10 → line_ends (drop i w) ≡ 1 + line_ends (drop (i + 1) w)
+pub ends_counted : (w : List ℕ) → line_ends w ≡ count_by (λ b. b == 10) w
 unfolding line_ends
-ends_at w i l e = ap line_ends (drop_more w i 0 l) ∙ rw e
+ends_counted w = is_count_by line_ends (λ b. b == 10) refl (λ b bs. refl) w
 
-pub ends_past : (w : List ℕ) (i : ℕ) → i < length w → get_or w i 0 ≢ 10 → line_ends (drop i w) ≡ line_ends (drop (i + 1) w)
-unfolding line_ends
-ends_past w i l n = ap line_ends (drop_more w i 0 l) ∙ rw (ne_eqb (get_or w i 0) 10 n)
+one_more : (v : Bool) (n : ℕ) → cond v 0 (n + 1) ≡ cond (not v) (1 + n) 0
+one_more true n = refl
+one_more false n = add_comm n 1
 
-pub ends_done : (w : List ℕ) (i : ℕ) → length w ≤ i → line_ends (drop i w) ≡ 0
-unfolding line_ends
-ends_done w i l = ap line_ends (drop_all i w l)
-
-pub since_at : (w : List ℕ) (i n : ℕ) → i < length w → get_or w i 0 ≡ 10 → since_end 0 (drop (i + 1) w) ≡ since_end n (drop i w)
+since_onto : (w before : List ℕ) → since_end (prefix_len (λ b. not (b == 10)) before) w ≡ prefix_len (λ b. not (b == 10)) (reverse w ++ before)
 unfolding since_end
-since_at w i n l e = sym (ap (since_end n) (drop_more w i 0 l) ∙ rw e)
+since_onto [] before = refl
+since_onto (b ∷ bs) before =
+    let e : reverse bs ++ (b ∷ before) ≡ reverse (b ∷ bs) ++ before = sym (append_assoc (reverse bs) (b ∷ []) before) ∙ ap (λ (l : List ℕ). l ++ before) (sym (reverse-append (b ∷ []) bs)) in
+    ap (λ (n : ℕ). since_end n bs) (one_more (b == 10) (prefix_len (λ c. not (c == 10)) before)) ∙ since_onto bs (b ∷ before) ∙ ap (prefix_len (λ c. not (c == 10))) e
 
-pub since_past : (w : List ℕ) (i n : ℕ) → i < length w → get_or w i 0 ≢ 10 → since_end (n + 1) (drop (i + 1) w) ≡ since_end n (drop i w)
-unfolding since_end
-since_past w i n l e =
-    sym (ap (since_end n) (drop_more w i 0 l) ∙ ap (λ (k : ℕ). since_end k (drop (i + 1) w)) (cond-false (eqb (get_or w i 0) 10) 0 (n + 1) (ne_eqb (get_or w i 0) 10 e)))
-
-pub since_done : (w : List ℕ) (i n : ℕ) → length w ≤ i → since_end n (drop i w) ≡ n
-unfolding since_end
-since_done w i n l = ap (since_end n) (drop_all i w l)
+pub since_counted : (w : List ℕ) → since_end 0 w ≡ length (take_while (λ b. not (b == 10)) (reverse w))
+since_counted w =
+    since_onto w [] ∙ ap (prefix_len (λ b. not (b == 10))) (append-nil (reverse w)) ∙ sym (length-prefix_len (λ b. not (b == 10)) (reverse w))

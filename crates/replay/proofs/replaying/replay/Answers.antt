@@ -1,17 +1,28 @@
-use Rattle.std.proofs.Common.{◌≡◌, List, [], ◌∷◌, map, length, drop, sym, subst, rules}
-use Rattle.std.proofs.lemmas.List.{take_at}
+use Rattle.std.proofs.Common.{◌≡◌, [], ◌∷◌, ◌++◌, map, ap, vec_items, arith, rules}
+use Rattle.std.proofs.lemmas.Grind.{common_steps}
+use Rattle.lives.specs.Lives.{rests}
 use Rattle.station.specs.Views.{machine}
-use Rattle.replay.specs.declared.Reply.{Reply}
-use Rattle.replay.specs.Replays.{Replayed}
+use Rattle.replay.specs.Desks.{stacks}
+use Rattle.replay.specs.Replays.{done}
+use Rattle.replay.proofs.Desks.{replayed_more, kept_joins}
 use Rattle.replay.proofs.replaying.replay.Goals as goal
 
-pub returns : goal.returns
-returns g c =
+pub loop-call-init : goal.loop-call-init
+loop-call-init g c = record { kept = search rules; replayed = rw c.in_ok-replies.ensures.items ([], done, rests); counted = search rules; room = search rules }
+
+pub loop-call-preserved : goal.loop-call-preserved
+loop-call-preserved g c =
+    let l = c.loop-call in
     let a = c.args in
-    let rs = c.replay_into.new.replies in
-    let v = c.in_ok-replies.replies in
-    let all : v.len ≡ length rs = search rules in
-    subst
-    (λ (us : List Reply). Replayed (g.O.Order.meaning a.order.now) (length a.trail.now ∷ length a.frames.now ∷ []) a.calls.now us (machine a.file.now) a.slips.now (map g.R.Record.meaning a.records.now) a.sheet.now
-    (machine c.replay_into.new.file) c.replay_into.new.slips (map g.R.Record.meaning c.replay_into.new.records) c.replay_into.new.sheet)
-    (sym (take_at rs (drop (length rs) v.items) v.len (sym all))) c.replay_into.ensures
+    let v = l.invariant in
+    let pushed : vec_items c.push.new.self ≡ vec_items l.replies ++ (c.make.result ∷ []) = grind (arith, common_steps) in
+    record {
+      kept = kept_joins a.desk.now l.desk c.make.new.desk v.kept c.make.ensures.kept;
+      replayed =
+          rw pushed (replayed_more (g.O.Order.meaning a.desk.now.order.now) (g.O.Order.meaning l.desk.order.now) (stacks a.desk.now) (stacks l.desk) a.calls.now (vec_items l.replies) l.call-index _ c.make.result
+          (machine a.file.now) (machine l.file) (machine c.make.new.file) a.slips.now l.slips c.make.new.slips
+          (map g.R.Record.meaning a.desk.now.records.now) (map g.R.Record.meaning l.desk.records.now) (map g.R.Record.meaning c.make.new.desk.records.now) a.desk.now.sheet.now l.desk.sheet.now c.make.new.desk.sheet.now
+          (ap (λ (r : _). g.O.Order.meaning r.now) v.kept.order) v.kept.room l.auto.slips c.loop-call-test.true v.replayed c.make.ensures.made);
+      counted = grind (arith, common_steps);
+      room = search rules;
+    }
