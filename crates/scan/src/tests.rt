@@ -30,7 +30,7 @@ pub fn test(literals: &[i32], settings: &Settings) -> Test
             Some(true) => return Test::SomeTrue,
             Some(false) => {}
             None => {
-                let Some(t) = Literal::of(*number) else {
+                let Ok(t) = Literal::try_from(*number) else {
                     return unreachable();
                 };
                 so_far = further(so_far, t);

@@ -23,7 +23,7 @@ impl State<'_> {
         let Some(k) = order.choose(self.settings.bytes()) else {
             return unreachable();
         };
-        let Some(t) = Literal::of(i32::from(k)) else {
+        let Ok(t) = Literal::try_from(i32::from(k)) else {
             return unreachable();
         };
         t

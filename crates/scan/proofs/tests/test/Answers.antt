@@ -8,7 +8,7 @@ use Rattle.clauses.specs.Sets.{code}
 use Rattle.scan.specs.declared.Test.{Test}
 use Rattle.scan.specs.Tests.{Tested}
 use Rattle.scan.proofs.Tested.{tested_false}
-use Rattle.scan.proofs.tests.test.Goals.{in-Some-false, in-None+in-Some}
+use Rattle.scan.proofs.tests.test.Goals.{in-Some-false, in-None+in-Ok}
 use Rattle.scan.proofs.tests.test.Goals as goal
 
 -- the clause as far as the next number
@@ -41,9 +41,9 @@ loop-number-preserved c =
       | in-Some-false w ↦
         let v = ap (value σ) (sym e) ∙ (rw (w.in-Some-false.is, w.in-Some-false.field-0-test) at c.look.ensures.looks) in
         one_more σ C i t _ _ c.loop-number-test.true refl w.so_far-is (tested_false σ (take i C) t c.loop-number.so_far v c.loop-number.invariant)
-      | in-None+in-Some w ↦
-        one_more σ C i (code w.in-Some.t) _ _ c.loop-number-test.true (w.in-Some.ensures ∙ e) w.so_far-is
-          (w.further-so_far.ensures σ (take i C) (ap (value σ) w.in-Some.ensures ∙ w.in-None.ensures.looks) c.loop-number.invariant)
+      | in-None+in-Ok w ↦
+        one_more σ C i (code w.in-Ok.t) _ _ c.loop-number-test.true (w.in-Ok.ensures ∙ e) w.so_far-is
+          (w.further-so_far.ensures σ (take i C) (ap (value σ) w.in-Ok.ensures ∙ w.in-None.ensures.looks) c.loop-number.invariant)
     ]
 
 pub returns : goal.returns
