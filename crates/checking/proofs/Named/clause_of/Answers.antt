@@ -11,4 +11,5 @@ pub returns-in_ok-checked_sub-in-S : goal.returns-in_ok-checked_sub-in-S
 returns-in_ok-checked_sub-in-S c Ds h =
     let sets = c.args.self.now.earlier.now in
     let i = c.in_ok-checked_sub-in-S.field-0 in
-    rw (c.in-S.is, c.copied.ensures, ← copied_at sets i c.get.result c.get.ensures.lookup.3) (found_step sets Ds c.in-S.k i h (omega (arith, c.in_ok-checked_sub-in-S.ensures)))
+    rw (c.in-S.is, c.copied.ensures, ← copied_at sets i c.get.result c.get.ensures.lookup.3)
+    (found_step sets Ds c.in-S.k i h (omega (arith, c.in_ok-checked_sub-in-S.ensures)))
