@@ -30,7 +30,8 @@ by_members j k l n L N hl hn b e =
     (ap (λ (x : Bool). x && has N (off k)) (has_member l L hl (on k)) ∙ ap (λ (x : Bool). member l (on k) && x) (has_member n N hn (off k)) ∙ e)
 
 -- the sets that are found on the left and on the right
-module _ (j : ℕ) {k : ℕ} {l n : LiteralSet} (L N : Option Clause) {o p : Option LiteralSet} (f : Found L o) (is_left : o ≡ Some l) (g : Found N p) (is_right : p ≡ Some n) (small : k < 256) where
+module _ (j : ℕ) {k : ℕ} {l n : LiteralSet} (L N : Option Clause) {o p : Option LiteralSet}
+    (f : Found L o) (is_left : o ≡ Some l) (g : Found N p) (is_right : p ≡ Some n) (small : k < 256) where
   lacking : (member l (on k) && member n (off k)) ≡ false → Made (step_clause j k L N) (Err (LacksVariable j))
   lacking e = look L N (subst (Found L) is_left f) (subst (Found N) is_right g)
     where
@@ -54,7 +55,8 @@ module _ (j : ℕ) {k : ℕ} {l n : LiteralSet} (L N : Option Clause) {o p : Opt
   left_lacks is e = lacking (ap (λ (x : Bool). x && member n (off k)) (sym (e ∙ ap (member l) (is ∙ signed))))
 
   pub right_lacks : {t u : ℤ} → t ≡ to_z w32 k → u ≡ opposite t → false ≡ member n u → Made (step_clause j k L N) (Err (LacksVariable j))
-  right_lacks is other e = lacking (ap (λ (x : Bool). member l (on k) && x) (sym (e ∙ ap (member n) (other ∙ ap opposite (is ∙ signed)))) ∙ and-false (member l (on k)))
+  right_lacks is other e = lacking
+      (ap (λ (x : Bool). member l (on k) && x) (sym (e ∙ ap (member n) (other ∙ ap opposite (is ∙ signed)))) ∙ and-false (member l (on k)))
 
   pub resolved : {t u : ℤ} (r : LiteralSet) → t ≡ to_z w32 k → u ≡ opposite t → true ≡ member l t → true ≡ member n u
       → ((v : ℤ) → member r v ≡ left_over l n t v) → Made (step_clause j k L N) (Ok r)
@@ -100,7 +102,8 @@ module _ (F : List Clause) (ss : List Step) (closing : Reference) where
     pub going_end : length ss ≤ i → (r : Result (Unit {0}) Decline) → Closing F sets closing r → Refuses (check_from F [] ss closing) r
     unfolding check_from
     going_end l r h =
-        let e : at_closing (named F g.Ds closing) ≡ check_from F [] ss closing = sym (ap (λ (us : List Step). check_from F g.Ds us closing) (drop_all i ss l)) ∙ g.goes in
+        let e : at_closing (named F g.Ds closing) ≡ check_from F [] ss closing =
+        sym (ap (λ (us : List Step). check_from F g.Ds us closing) (drop_all i ss l)) ∙ g.goes in
         subst (λ (o : Option Decline). Refuses o r) e (h g.Ds g.held)
 
     module _ (s : Step) (n : i ≡ length sets) (this : Some s ≡ step_at ss (i + 1)) where

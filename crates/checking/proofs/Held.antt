@@ -34,8 +34,8 @@ found_nth (s ∷ sets) (D ∷ Ds) zero h = h.0
 found_nth (s ∷ sets) (D ∷ Ds) (suc i) h = found_nth sets Ds i h.1
 
 -- what `get` finds, copied
-pub copied_at : (sets : List LiteralSet) (i : ℕ) (o : Option (Bor LiteralSet)) → MatchOption o (length sets ≤ i) (λ x. (i < length sets) × HoldsAt (λ y. x.now ≡ y) sets i)
-    → slice_get sets i ≡ option_copied o
+pub copied_at : (sets : List LiteralSet) (i : ℕ) (o : Option (Bor LiteralSet)) → MatchOption o (length sets ≤ i)
+    (λ x. (i < length sets) × HoldsAt (λ y. x.now ≡ y) sets i) → slice_get sets i ≡ option_copied o
 copied_at sets i None h = slice_get_past sets i h
 copied_at sets i (Some x) h = slice_get-get_or sets i x.now h.0 ∙ ap Some (sym (h.1 x.now))
 

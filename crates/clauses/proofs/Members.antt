@@ -64,9 +64,11 @@ without false true = refl
 without false false = refl
 
 pub united : (a b l r m : LiteralSet) (t o : ℤ) → ((u : ℤ) → member l u ≡ cond (same t u) false (member a u)) → o ≡ opposite t
-    → ((u : ℤ) → member r u ≡ cond (same o u) false (member b u)) → ((k : ℕ) → get_or m.marks k false ≡ (get_or l.marks k false || get_or r.marks k false)) → (u : ℤ) → member m u ≡ left_over a b t u
+    → ((u : ℤ) → member r u ≡ cond (same o u) false (member b u))
+    → ((k : ℕ) → get_or m.marks k false ≡ (get_or l.marks k false || get_or r.marks k false)) → (u : ℤ) → member m u ≡ left_over a b t u
 united a b l r m t o f e g h u =
-    both u ∙ ap (λ (x : Bool). x || member r u) (f u ∙ without (same t u) (member a u)) ∙ ap (λ (x : Bool). left_from || x) ((rw e at g u) ∙ without (same (opposite t) u) (member b u))
+    both u ∙ ap (λ (x : Bool). x || member r u) (f u ∙ without (same t u) (member a u))
+    ∙ ap (λ (x : Bool). left_from || x) ((rw e at g u) ∙ without (same (opposite t) u) (member b u))
   where
     left_from : Bool
     left_from = member a u && not (same t u)
@@ -145,6 +147,9 @@ or_left x y p q e f = rw (e, f)
 or_right : (x y p q : Bool) → y ≡ true → q ≡ false → ((x && not p) || (y && not q)) ≡ true
 or_right x y p q e f = rw (e, f) (or-true (x && not p))
 
+differs : (t u : ℤ) → same t u ≡ false → u ≢ t
+differs t u p e = false≢true (sym p ∙ ap (same t) e ∙ same_refl t)
+
 -- the resolvent of sets holds the resolvent of the clauses that they hold
 pub holds_joined : (s f r : LiteralSet) (t : ℤ) (C D E : Clause) → Holds s C → Holds f D → ((u : ℤ) → member r u ≡ left_over s f t u) → Joined t C D E → Holds r E
 holds_joined s f r t C D E hs hf h j u = (
@@ -153,8 +158,8 @@ holds_joined s f r t C D E hs hf h j u = (
       (λ (p : (u ∈ D) × (u ≢ opposite t)). or_right (member s u) (member f u) (same t u) (same (opposite t) u) ((hf u).0 p.0) (same_false (opposite t) u (λ e. p.1 (sym e))))
       (joined_from t C D E j u i)),
   λ m. joined_all t C D E j u (⊎_elim
-      (λ (p : (member s u ≡ true) × (same t u ≡ false)). inl ((hs u).1 p.0, λ (e : u ≡ t). false≢true (sym p.1 ∙ ap (same t) e ∙ same_refl t)))
-      (λ (p : (member f u ≡ true) × (same (opposite t) u ≡ false)). inr ((hf u).1 p.0, λ (e : u ≡ opposite t). false≢true (sym p.1 ∙ ap (same (opposite t)) e ∙ same_refl (opposite t))))
+      (λ (p : (member s u ≡ true) × (same t u ≡ false)). inl ((hs u).1 p.0, differs t u p.1))
+      (λ (p : (member f u ≡ true) × (same (opposite t) u ≡ false)). inr ((hf u).1 p.0, differs (opposite t) u p.1))
       (or_either (member s u) (member f u) (same t u) (same (opposite t) u) (sym (h u) ∙ m))),
 )
 

@@ -1,4 +1,5 @@
-use Rattle.std.proofs.Common.{arith}
+use Rattle.std.proofs.Common.{◌≡◌, sym, ◌∙◌, arith}
+use Rattle.std.specs.List.{slice_get}
 use Rattle.checking.proofs.Held.{copied_at, found_step, holds_shown}
 use Rattle.checking.proofs.Named.clause_of.Goals as goal
 
@@ -11,4 +12,5 @@ pub returns-in_ok-checked_sub-in-S : goal.returns-in_ok-checked_sub-in-S
 returns-in_ok-checked_sub-in-S c Ds h =
     let sets = c.args.self.now.earlier.now in
     let i = c.in_ok-checked_sub-in-S.field-0 in
-    rw (c.in-S.is, c.copied.ensures, ← copied_at sets i c.get.result c.get.ensures.lookup.3) (found_step sets Ds c.in-S.k i h (omega (arith, c.in_ok-checked_sub-in-S.ensures)))
+    let e : c.copied.result ≡ slice_get sets i = c.copied.ensures ∙ sym (copied_at sets i c.get.result c.get.ensures.lookup.3) in
+    rw (c.in-S.is, e) (found_step sets Ds c.in-S.k i h (omega (arith, c.in_ok-checked_sub-in-S.ensures)))

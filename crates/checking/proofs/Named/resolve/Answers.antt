@@ -19,4 +19,5 @@ returns-in_default-2 c Ds h =
 
 pub returns-in_default-3 : goal.returns-in_default-3
 returns-in_default-3 c Ds h =
-    no_variable _ _ _ (c.clause_of.ensures Ds h) c.in_ok-left.ensures.ok_part (c.clause_of-2.ensures Ds h) c.in_ok-right.ensures.ok_part (search rules) c.in_default.ensures
+    no_variable _ _ _ (c.clause_of.ensures Ds h) c.in_ok-left.ensures.ok_part (c.clause_of-2.ensures Ds h) c.in_ok-right.ensures.ok_part (search rules)
+    c.in_default.ensures

@@ -17,6 +17,7 @@ loop-number-preserved c u =
       | in-Ok w ↦
           (let e : t ≡ code w.in-Ok.t = sym (w.in-Ok.ensures ∙ to_z-of_z w32 t f) in
           let low : w.in-Ok.t.index < 256 = search rules in
-          rw (w.set-is, more, e) (named_more c.loop-number.set w.insert.new.self (take i xs) (code w.in-Ok.t) (code_within w.in-Ok.t low) w.insert.ensures c.loop-number.invariant u))
+          rw (w.set-is, more, e)
+          (named_more c.loop-number.set w.insert.new.self (take i xs) (code w.in-Ok.t) (code_within w.in-Ok.t low) w.insert.ensures c.loop-number.invariant u))
       | in_default w ↦ rw (w.set-is, more) (c.loop-number.invariant u ∙ sym (named_other (take i xs) t (rw (to_z-of_z w32 t f) at w.in_default.ensures) u))
     ]
