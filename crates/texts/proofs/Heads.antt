@@ -1,7 +1,7 @@
 -- What the functions on the problem line need.
 use Rattle.std.proofs.Common.{◌≡◌, ℕ, ◌≢◌, Bool, true, false, not, cond, ◌&&◌, eqb, List, [], ◌∷◌, length, get_or, Some, None, codes, Option, sym, refl, ap, ◌∙◌}
 use Rattle.std.specs.Cmp.Lexicographic.{pointwise}
-use Rattle.std.proofs.lemmas.Bool.{eq-eqb, ne_eqb, and_left, and_right, cond-false}
+use Rattle.std.proofs.lemmas.Bool.{ne_eqb, and_left, and_right, cond-false}
 use Rattle.model.specs.declared.ProblemLine.{ProblemLine}
 use Rattle.model.specs.Numbers.{natural}
 use Rattle.model.specs.Reading.{same_bytes, counted, counts}

@@ -5,7 +5,7 @@ use Rattle.model.specs.declared.TextFault.{TextFault}
 use Rattle.model.specs.declared.WordFault.{WordFault}
 use Rattle.model.specs.Clauses.{Each}
 use Rattle.model.specs.Words.{Placed}
-use Rattle.model.specs.Reading.{State, Step, on, step}
+use Rattle.model.specs.Reading.{State, Step, on}
 use Rattle.texts.specs.declared.Reader.{Reader}
 use Rattle.texts.specs.declared.Placed.{Placed as Read}
 use Rattle.texts.specs.Scan.{rest_of, text_of, Gives}

@@ -1,5 +1,5 @@
 -- What splitting gives, and the words of a line.
-use Rattle.std.proofs.Common.{◌≡◌, ℕ, zero, suc, ◌+◌, ◌<◌, ◌≤◌, Bool, true, false, not, cond, ltb, List, [], ◌∷◌, ◌++◌, length, get_or, take, drop, Some, None, unwrap_or, sym, refl, ap, ◌∙◌, subst, append-nil, arith}
+use Rattle.std.proofs.Common.{◌≡◌, ℕ, zero, suc, ◌+◌, ◌<◌, ◌≤◌, Bool, true, false, not, cond, ltb, List, [], ◌∷◌, ◌++◌, length, get_or, take, drop, Some, None, Option, unwrap_or, sym, refl, ap, ◌∙◌, subst, append-nil, arith}
 use Rattle.std.specs.List.{position_or_len}
 use Rattle.std.proofs.lemmas.Bool.{true≢false, ltb-false}
 use Rattle.std.proofs.lemmas.List.Sums.{prefix_len-le-length}
@@ -106,8 +106,8 @@ place_or_end p l h = look (ltb p l) refl
     look true e = refl
     look false e = omega (arith, ltb-false p l e)
 
-pub front_by : (cuts : ℕ → Bool) (bs : List ℕ) (n : ℕ) → n ≡ unwrap_or (cond (ltb (position_or_len cuts bs) (length bs)) (Some (position_or_len cuts bs)) None) (length bs) → take n bs ≡ front cuts bs
-front_by cuts bs n e = ap (λ k. take k bs) (e ∙ place_or_end (position_or_len cuts bs) (length bs) (prefix_len-le-length (λ x. not (cuts x)) bs)) ∙ front_at cuts bs
+pub front_by : (cuts : ℕ → Bool) (bs : List ℕ) (o : Option ℕ) (n : ℕ) → o ≡ cond (ltb (position_or_len cuts bs) (length bs)) (Some (position_or_len cuts bs)) None → n ≡ unwrap_or o (length bs) → take n bs ≡ front cuts bs
+front_by cuts bs o n p e = ap (λ k. take k bs) (e ∙ (ap (λ x. unwrap_or x (length bs)) p ∙ place_or_end (position_or_len cuts bs) (length bs) (prefix_len-le-length (λ x. not (cuts x)) bs))) ∙ front_at cuts bs
 
 -- what stands before the line's end stops a word too
 pub line_stops : (t : List ℕ) → Stops ends_word t → Stops ends_word (front ends_line t)

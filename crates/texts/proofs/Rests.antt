@@ -5,7 +5,7 @@ use Rattle.std.proofs.lemmas.List.{take_rest, drop-drop, length-drop, length-app
 use Rattle.texts.specs.declared.Token.{Token as Cut}
 use Rattle.texts.specs.declared.Token.TheVariants.{Number, Comment, Problem, LineEnd}
 use Rattle.model.specs.Numbers.{integer}
-use Rattle.model.specs.Words.{Piece, Placed, comment, problem, line_end, spelt, split, grow, words, word_tokens, ends_line, ends_word, blank, line_tokens, all_tokens, lines, tokens}
+use Rattle.model.specs.Words.{Piece, Placed, line_end, spelt, split, grow, words, word_tokens, ends_line, ends_word, blank, line_tokens, all_tokens, lines, tokens}
 use Rattle.texts.specs.Scan.{Clear, Stops, front, after_line, rest_pieces, rest_tokens, line_begins, bytes_of, kind_of, part_token, FirstPart}
 use Rattle.texts.proofs.Pieces.{split_piece, split_last, clear_at, Fronted, fronted, front_some, front_first, line_stops, beyond, split_front, front-++, beyond-++, words_none, words_gap, words_more}
 

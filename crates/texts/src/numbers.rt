@@ -3,7 +3,7 @@ ghost use Rattle.std.specs.Prelude.{◌≡◌};
 ghost use Rattle.model.specs.Numbers.{natural as Natural, integer as Integer};
 ghost use Rattle.texts.specs.Scan.{Small};
 
-// What 1 to 6 digits write.
+// What 1 to 6 digits write. `parse` takes a plus and any number of zeros, so both tests would stand beside it, and a `try_fold` the bound on each sum.
 pub(crate) fn natural(w: &[u8]) -> Option<u32>
     ensures value { result ≡ Natural w.now }
     ensures small { Small result }

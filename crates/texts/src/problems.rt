@@ -4,7 +4,7 @@ ghost use Rattle.model.specs.Words.{tokens};
 ghost use Rattle.model.specs.Reading.{counts, spellings, variables_in};
 
 use super::numbers::natural;
-use super::spans::cuts_words;
+use super::spans::ends_word;
 use super::{Reader, Token};
 use model::ProblemLine;
 
@@ -12,7 +12,7 @@ use model::ProblemLine;
 pub fn counts_of(line: &[u8]) -> Option<ProblemLine>
     ensures { result ≡ counts (spellings line.now) }
 {
-    let mut words = line.split(|b| cuts_words(*b)).filter(|w| !w.is_empty());
+    let mut words = line.split(ends_word).filter(|w| !w.is_empty());
     let p = words.next()?;
     let cnf = words.next()?;
     let variables = natural(words.next()?)?;

@@ -39,8 +39,8 @@ fn spelled(p: Result<Placed<'_>, WordFault>) -> Result<Option<Numeral>, TextFaul
 }
 
 impl<'a> Reader<'a> {
-    // What is read of the first token of which anything is, or nothing at the end.
-    fn find<T, F>(&mut self, reads: F) -> Result<Option<T>, TextFault>
+    // What is read of the first token of which anything is, or nothing at the end, which `find_map` does not promise to have reached.
+    fn first_read<T, F>(&mut self, reads: F) -> Result<Option<T>, TextFault>
     where
         T: Drop,
         F: Fn(Result<Placed<'a>, WordFault>) -> Result<Option<T>, TextFault>,
@@ -60,7 +60,7 @@ impl<'a> Reader<'a> {
         ensures heads { Heads n self.old self.new result }
         ensures text { text_of self.new ≡ text_of self.old }
     {
-        self.find(|p| begun(n, p))
+        self.first_read(|p| begun(n, p))
     }
 
     // The next number after the problem line, or nothing at the end of the text.
@@ -68,6 +68,6 @@ impl<'a> Reader<'a> {
         ensures counts { Counts self.old self.new result }
         ensures text { text_of self.new ≡ text_of self.old }
     {
-        self.find(spelled)
+        self.first_read(spelled)
     }
 }

@@ -4,7 +4,7 @@ ghost use Rattle.model.specs.Words.{blank, tokens};
 ghost use Rattle.texts.specs.Scan.{text_of, rest_of, FirstPart, Gives};
 
 use super::numbers::integer;
-use super::spans::{begins_line, cuts_words, front, is_blank};
+use super::spans::{begins_line, ends_line, ends_word, front, is_blank};
 use super::{Placed, Reader, Token};
 use model::WordFault;
 
@@ -17,15 +17,15 @@ fn first_part<'a>(rest: &'a [u8], fresh: bool) -> (&'a [u8], Option<Token<'a>>)
     match rest[0] {
         b'\n' => (&rest[..1], Some(Token::LineEnd(&rest[..1]))),
         b'c' if fresh => {
-            let line = front(rest, |b| *b == b'\n');
+            let line = front(rest, ends_line);
             (line, Some(Token::Comment(line)))
         }
         b'p' if fresh => {
-            let line = front(rest, |b| *b == b'\n');
+            let line = front(rest, ends_line);
             (line, Some(Token::Problem(line)))
         }
         _ => {
-            let word = front(rest, |b| cuts_words(*b));
+            let word = front(rest, ends_word);
             (word, integer(word).map(|x| Token::Number(word, x)))
         }
     }
@@ -52,7 +52,7 @@ impl<'a> Iterator for Reader<'a> {
     // The next token, or nothing at the end. A word that is no number is passed as well.
     fn next(&mut self) -> Option<Result<Placed<'a>, WordFault>> {
         let text = self.text;
-        self.at += front(&text[self.at..], |b| !is_blank(*b)).len();
+        self.at += front(&text[self.at..], |b| !is_blank(b)).len();
         let place = self.at;
         if place == text.len() {
             return None;

@@ -1,18 +1,24 @@
 // Where words and lines end.
 ghost use Rattle.std.specs.Prelude.{◌≡◌, ◌≤◌, length};
-ghost use Rattle.model.specs.Words.{blank, ends_word};
+ghost use Rattle.model.specs.Words.{blank, ends_line as EndsLine, ends_word as EndsWord};
 ghost use Rattle.texts.specs.Scan.{Fronts, line_begins};
 
-pub(crate) fn is_blank(b: u8) -> bool
-    ensures { result ≡ blank b }
+pub(crate) fn is_blank(b: &u8) -> bool
+    ensures { result ≡ blank b.now }
 {
-    b == 32 || b == 9 || b == 13
+    *b == b' ' || *b == b'\t' || *b == b'\r'
 }
 
-pub(crate) fn cuts_words(b: u8) -> bool
-    ensures { result ≡ ends_word b }
+pub(crate) fn ends_line(b: &u8) -> bool
+    ensures { result ≡ EndsLine b.now }
 {
-    b == 10 || is_blank(b)
+    *b == b'\n'
+}
+
+pub(crate) fn ends_word(b: &u8) -> bool
+    ensures { result ≡ EndsWord b.now }
+{
+    ends_line(b) || is_blank(b)
 }
 
 // Whether a line begins at a place.
@@ -20,7 +26,7 @@ pub(crate) fn begins_line(text: &[u8], at: usize) -> bool
     requires { at ≤ length text.now }
     ensures { result ≡ line_begins text.now at }
 {
-    at == 0 || text[at - 1] == b'\n'
+    at == 0 || ends_line(&text[at - 1])
 }
 
 // The bytes before the first at which `stops` holds, or all.

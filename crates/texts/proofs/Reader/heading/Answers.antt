@@ -5,6 +5,6 @@ use Rattle.texts.proofs.Reader.heading.Goals as goal
 
 pub returns : goal.returns
 returns c = record {
-  heads = finds c.find.ensures (Before c.args.n) began (λ s. refl) (λ p r k. search rules);
-  text = stays c.find.ensures (Before c.args.n) began (λ s. refl) (λ p r k. search rules);
+  heads = finds c.first_read.ensures (Before c.args.n) began (λ s. refl) (λ p r k. search rules);
+  text = stays c.first_read.ensures (Before c.args.n) began (λ s. refl) (λ p r k. search rules);
 }

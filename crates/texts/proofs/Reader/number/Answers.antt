@@ -5,6 +5,6 @@ use Rattle.texts.proofs.Reader.number.Goals as goal
 
 pub returns : goal.returns
 returns c = record {
-  counts = finds c.find.ensures After spoke (λ s. refl) (λ p r k. search rules);
-  text = stays c.find.ensures After spoke (λ s. refl) (λ p r k. search rules);
+  counts = finds c.first_read.ensures After spoke (λ s. refl) (λ p r k. search rules);
+  text = stays c.first_read.ensures After spoke (λ s. refl) (λ p r k. search rules);
 }

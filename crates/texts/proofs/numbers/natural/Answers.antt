@@ -1,19 +1,18 @@
-use Rattle.std.proofs.Common.{◌≡◌, ◌+◌, ◌*◌, ◌^◌, ◌<◌, ◌≤◌, ◌≢◌, length, get_or, sym, ◌∙◌, inl, inr, ⊎_elim, add-one, arith, rules}
+use Rattle.std.proofs.Common.{◌≡◌, ◌+◌, ◌*◌, ◌^◌, ◌<◌, ◌≤◌, ◌≢◌, length, get_or, sym, ◌∙◌, inl, inr, ⊎_elim, add-one, arith}
 use Rattle.std.proofs.lemmas.Bool.{eqb-true, eqb-false}
 use native.Mathlib.Nat.{pow-succ', pow-le-pow_right}
 use Rattle.texts.proofs.Digits.{bad_length, bad_digit, good_digits, digits_more, digits_broken, digits_done, value_more, value_done, at_most_57}
 use Rattle.texts.proofs.numbers.natural.Goals as goal
 
-pub returns-then-is_empty : goal.returns-then-is_empty
-returns-then-is_empty c =
+pub returns-then-is_empty-clause-value : goal.returns-then-is_empty-clause-value
+returns-then-is_empty-clause-value c =
     let n = length c.args.w.now in
-    record { small = tt; value = bad_length c.args.w.now (⊎_elim (λ a. inl (let z : n ≡ 0 = eqb-true n 0 (sym c.is_empty.ensures ∙ a) in omega arith)) (λ a. inr a.1) c.then-is_empty.either) }
+    bad_length c.args.w.now (⊎_elim (λ a. inl (let z : n ≡ 0 = eqb-true n 0 (sym c.is_empty.ensures ∙ a) in omega arith)) (λ a. inr a.1) c.then-is_empty.either)
 
-pub returns-then-not-is_ascii_digit : goal.returns-then-not-is_ascii_digit
-returns-then-not-is_ascii_digit c =
+pub returns-then-not-is_ascii_digit-clause-value : goal.returns-then-not-is_ascii_digit-clause-value
+returns-then-not-is_ascii_digit-clause-value c =
     let w = c.args.w.now in
-    let i = c.loop-b.b-index in
-    record { small = tt; value = bad_digit w (sym c.loop-b.invariant.1 ∙ digits_broken w i c.loop-b-test.true (sym c.if-not-is_ascii_digit.ensures.value)) }
+    bad_digit w (sym c.loop-b.invariant.1 ∙ digits_broken w c.loop-b.b-index c.loop-b-test.true (sym c.if-not-is_ascii_digit.ensures.value))
 
 pub loop-b-preserved : goal.loop-b-preserved
 loop-b-preserved c =

@@ -1,7 +1,7 @@
 use Rattle.std.proofs.lemmas.Result.{err_from_is_err_and}
 use Rattle.std.proofs.Common.{[], ◌∷◌}
 use Rattle.model.proofs.Lists.{each_append}
-use Rattle.texts.proofs.Reader.find.Goals as goal
+use Rattle.texts.proofs.Reader.first_read.Goals as goal
 
 pub returns-in_err-x : goal.returns-in_err-x
 returns-in_err-x g c =
