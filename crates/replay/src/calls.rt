@@ -10,7 +10,7 @@ use records::Record;
 use search::settling::settle;
 use station::{Slip, StationFile};
 
-// Makes one call, where what it names is there.
+// Makes one call, where what it names is there. A call is data, so that a life can be listed: a match, and no function handed in, says what it does.
 pub(crate) fn make<O: Order, R: Record>(
     file: &mut StationFile,
     slips: &mut [Slip],
