@@ -18,7 +18,9 @@ pub(crate) fn make<O: Order, R: Record>(
     call: Call,
 ) -> Reply
     ensures kept { Kept desk.old desk.new }
-    ensures made { Made (O.Order.meaning desk.old.order.now) (stacks desk.old) call.entry result (machine file.old) slips.old (map R.Record.meaning desk.old.records.now) desk.old.sheet.now (machine file.new) slips.new (map R.Record.meaning desk.new.records.now) desk.new.sheet.now }
+    ensures made { Made (O.Order.meaning desk.old.order.now) (stacks desk.old) call.entry result
+        (machine file.old) slips.old (map R.Record.meaning desk.old.records.now) desk.old.sheet.now
+        (machine file.new) slips.new (map R.Record.meaning desk.new.records.now) desk.new.sheet.now }
 {
     match call {
         Call::Enter(literals) => Reply::Entered(file.enter(literals)),
