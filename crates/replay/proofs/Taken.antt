@@ -18,19 +18,19 @@ module _ {o : OrderMeaning} {memory : List ℕ} {slips : ℕ} (none : slips ≡ 
   -- an event of a call without slips
   make_longer : {c : Call} {r : Reply} {recs recs₁ : List RecordMeaning} {sheet sheet₁ : List ℕ} {es fs : List Event} {w z : World}
       → Makes o memory slips c r recs sheet es recs₁ sheet₁ → Run w (es ++ fs) z → (y : World) × Longer w.file y.file × Run y fs z
-  make_longer entering (goes {w = w} {y = y} (enters {ts = ts} {r = r} {m = m} p) q) = (y, entry_longer w.file m ts r p, q)
-  make_longer reading (goes {w = w} {y = y} (reads_in {text = text} {r = r} {m = m} p) q) = (y, reads_longer w.file text m r p, q)
+  make_longer entering (goes (enters {ts = ts} p) q) = (_, entry_longer _ _ ts _ p, q)
+  make_longer reading (goes (reads_in {text = text} p) q) = (_, reads_longer _ text _ _ p, q)
   make_longer (opening h) q = absurd (omega arith)
   make_longer (closing h) q = absurd (omega arith)
-  make_longer (settling e) (goes {w = w} {y = y} (settles l k p) q) = (w, same_longer w.file w.file refl, q)
-  make_longer {w = w} (no_slip_to_open h) q = (w, same_longer w.file w.file refl, q)
-  make_longer {w = w} (no_slip_to_close h) q = (w, same_longer w.file w.file refl, q)
-  make_longer {w = w} (no_record h) q = (w, same_longer w.file w.file refl, q)
+  make_longer (settling e) (goes (settles l k p) q) = (_, same_longer _ _ refl, q)
+  make_longer (no_slip_to_open h) q = (_, same_longer _ _ refl, q)
+  make_longer (no_slip_to_close h) q = (_, same_longer _ _ refl, q)
+  make_longer (no_record h) q = (_, same_longer _ _ refl, q)
 
   calls_longer : {cs : List Call} {rs : List Reply} {recs recs₁ : List RecordMeaning} {sheet sheet₁ : List ℕ} {es : List Event} {w z : World}
       → Replays o memory slips cs rs recs sheet es recs₁ sheet₁ → Run w es z → Longer w.file z.file
-  calls_longer done (rests {w = w}) = same_longer w.file w.file refl
-  calls_longer {w = w} {z = z} (then x p) q = let y = make_longer x q in longer_more w.file y.0.file z.file y.1 (calls_longer p y.2)
+  calls_longer done rests = same_longer _ _ refl
+  calls_longer (then x p) q = let y = make_longer x q in longer_more _ y.0.file _ y.1 (calls_longer p y.2)
 
 -- a trial opened with a blank slip, clauses added in it, and its close
 pub record Back (m m₁ m₃ : Machine) (s₂ : SlipState) : Type 0 where
@@ -53,7 +53,7 @@ taken_back m m₁ m₂ m₃ s₀ s₁ s₂ u b e o l c = by b c
 
     by : (b : Result (Unit {0}) Decline) → Closes m₂ s₁ m₃ s₂ b → Back m m₁ m₃ s₂
     by (Ok v) c = record { allowed = free; inside = o.0.2; same = c.0.2 ∙ trial_leaves m m₂ longer; is_blank = c.1.2 }
-    by (Err d) c = absurd (let h = sym c.0.0 ∙ closes_now in let z : ◌≡◌ {A = ℕ} 0 1 = cc in omega arith)
+    by (Err d) c = absurd (let h = sym c.0.0 ∙ closes_now in cc)
 
 -- the same of a file and a slip, where the calls were replayed without slips
 pub rehearsed_back : (o : OrderMeaning) (memory : List ℕ) (cs : List Call) (rs : List Reply) (f₀ f₁ f₂ f₃ : StationFile) (p₀ p₁ p₂ : Slip) (xs' : List Slip) (recs recs' : List RecordMeaning) (sheet sheet' : List ℕ)

@@ -10,7 +10,7 @@ use records::Record;
 use search::settling::settle;
 use station::{Slip, StationFile};
 
-// Makes one call, where what it names is there.
+// Makes one call, where what it names is there. A call is data, so that a life can be listed: a match, and no function handed in, says what it does.
 pub(crate) fn make<O: Order, R: Record>(
     file: &mut StationFile,
     slips: &mut [Slip],
@@ -18,7 +18,9 @@ pub(crate) fn make<O: Order, R: Record>(
     call: Call,
 ) -> Reply
     ensures kept { Kept desk.old desk.new }
-    ensures made { Made (O.Order.meaning desk.old.order.now) (stacks desk.old) call.entry result (machine file.old) slips.old (map R.Record.meaning desk.old.records.now) desk.old.sheet.now (machine file.new) slips.new (map R.Record.meaning desk.new.records.now) desk.new.sheet.now }
+    ensures made { Made (O.Order.meaning desk.old.order.now) (stacks desk.old) call.entry result
+        (machine file.old) slips.old (map R.Record.meaning desk.old.records.now) desk.old.sheet.now
+        (machine file.new) slips.new (map R.Record.meaning desk.new.records.now) desk.new.sheet.now }
 {
     match call {
         Call::Enter(literals) => Reply::Entered(file.enter(literals)),

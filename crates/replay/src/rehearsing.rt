@@ -20,7 +20,9 @@ pub fn rehearse<O: Order, R: Record>(
     calls: &[Call],
 ) -> Result<Vec<Reply>, NotRehearsed>
     ensures kept { Kept desk.old desk.new }
-    ensures rehearsed { Rehearsed vec_items (O.Order.meaning desk.old.order.now) (stacks desk.old) calls.now result (machine file.old) (map R.Record.meaning desk.old.records.now) desk.old.sheet.now (machine file.new) (map R.Record.meaning desk.new.records.now) desk.new.sheet.now }
+    ensures rehearsed { Rehearsed vec_items (O.Order.meaning desk.old.order.now) (stacks desk.old) calls.now result
+        (machine file.old) (map R.Record.meaning desk.old.records.now) desk.old.sheet.now
+        (machine file.new) (map R.Record.meaning desk.new.records.now) desk.new.sheet.now }
 {
     let mut slip = Slip::blank();
     file.open(&mut slip)?;

@@ -20,7 +20,9 @@ pub fn replay<O: Order, R: Record>(
     calls: &[Call],
 ) -> Result<Vec<Reply>, AllocError>
     ensures kept { Kept desk.old desk.new }
-    ensures replied { Replied vec_items (O.Order.meaning desk.old.order.now) (stacks desk.old) calls.now result (machine file.old) slips.old (map R.Record.meaning desk.old.records.now) desk.old.sheet.now (machine file.new) slips.new (map R.Record.meaning desk.new.records.now) desk.new.sheet.now }
+    ensures replied { Replied vec_items (O.Order.meaning desk.old.order.now) (stacks desk.old) calls.now result
+        (machine file.old) slips.old (map R.Record.meaning desk.old.records.now) desk.old.sheet.now
+        (machine file.new) slips.new (map R.Record.meaning desk.new.records.now) desk.new.sheet.now }
 {
     let mut replies = Vec::with_capacity(heap, calls.len())?;
     for call in calls {

@@ -19,6 +19,7 @@ use search::settling::settle;
 use search::{Frame, Mark};
 use station::StationFile;
 use std::alloc::{AllocError, Global};
+use std::fmt::{Display, Write};
 use texts::problems::variables_of;
 
 // How many steps an argument may have: lines of 28 bytes.
@@ -39,36 +40,38 @@ impl From<AllocError> for NotSettled {
     }
 }
 
-// Reads the text into a fresh file, as many options as its problem line says, else 1, and settles it. The lines to print, of a decline too.
+// The refusal that prints as `why`.
+fn declined<W: Display + Drop>(heap: Global, why: W) -> NotSettled {
+    why.to_string(heap)
+        .map_or_else(NotSettled::Memory, NotSettled::Declined)
+}
+
+// Reads the text into a fresh file, as many options as its problem line says, else 1, and settles it. Gives the lines to print, of a decline too.
 pub fn report(heap: Global, text: &[u8]) -> Result<String, NotSettled> {
-    report_in(heap, text, |fault| {
-        format!(in heap; "{}", Cause::Reading(fault))
-    })
+    report_in(heap, text, |fault| declined(heap, Cause::Reading(fault)))
 }
 
 // As `report`, and a fault of the text comes with its line.
 pub fn report_with_line(heap: Global, text: &[u8]) -> Result<String, NotSettled> {
-    report_in(heap, text, |fault| {
-        format!(in heap; "{}", Shown { text, fault })
-    })
+    report_in(heap, text, |fault| declined(heap, Shown { text, fault }))
 }
 
-fn report_in<F: FnOnce(ReadFault) -> Result<String, AllocError>>(
+// `faulty` gives the refusal for a fault of the text.
+fn report_in<F: FnOnce(ReadFault) -> NotSettled>(
     heap: Global,
     text: &[u8],
-    printed: F,
+    faulty: F,
 ) -> Result<String, NotSettled>
-    requires { F.IsAlwaysCallable printed }
+    requires { F.IsAlwaysCallable faulty }
 {
     let mut file = StationFile::new();
-    if let Err(decline) = file.start(variables_of(text).unwrap_or(1), 1) {
-        let cause = Cause::Reading(ReadFault::from(FileFault { place: 0, decline }));
-        return Err(NotSettled::Declined(format!(in heap; "{cause}")?));
-    }
-    match file.read(text) {
-        Ok(rules) => settled(heap, &file, rules, text.len()),
-        Err(fault) => Err(NotSettled::Declined(printed(fault)?)),
-    }
+    file.start(variables_of(text).unwrap_or(1), 1)
+        .map_err(|decline| {
+            let fault = FileFault { place: 0, decline };
+            declined(heap, Cause::Reading(fault.into()))
+        })?;
+    let rules = file.read(text).map_err(faulty)?;
+    settled(heap, &file, rules, text.len())
 }
 
 // Settles the file and says how it ended.
@@ -92,18 +95,15 @@ fn settled(
         &mut sheet,
         &mut trail,
         &mut frames,
-    );
+    )
+    .map_err(|decline| declined(heap, Cause::Search { size, decline }))?;
     let steps = lines.count();
     let mut out = format!(in heap;
         "c {rules} rules over {n} options, {size} bytes read\nc {steps} steps\n"
     )?;
     match answer {
-        Ok(Answer::Fits) => fits(&mut out, &sheet)?,
-        Ok(Answer::Cannot(closing)) => cannot(&mut out, closing, lines.text())?,
-        Err(decline) => {
-            let cause = Cause::Search { size, decline };
-            return Err(NotSettled::Declined(format!(in heap; "{cause}")?));
-        }
+        Answer::Fits => fits(&mut out, &sheet)?,
+        Answer::Cannot(closing) => cannot(&mut out, closing, lines.text())?,
     }
     Ok(out)
 }

@@ -1,8 +1,6 @@
-use Rattle.std.proofs.Common.{◌≡◌, [], ◌∷◌, ◌++◌, map, ap, vec_items, arith, rules}
+use Rattle.std.proofs.Common.{◌≡◌, [], ◌∷◌, ◌++◌, ap, vec_items, arith, rules}
 use Rattle.std.proofs.lemmas.Grind.{common_steps}
 use Rattle.lives.specs.Lives.{rests}
-use Rattle.station.specs.Views.{machine}
-use Rattle.replay.specs.Desks.{stacks}
 use Rattle.replay.specs.Replays.{done}
 use Rattle.replay.proofs.Desks.{replayed_more, kept_joins}
 use Rattle.replay.proofs.replaying.replay.Goals as goal
@@ -19,9 +17,7 @@ loop-call-preserved g c =
     record {
       kept = kept_joins a.desk.now l.desk c.make.new.desk v.kept c.make.ensures.kept;
       replayed =
-          rw pushed (replayed_more (g.O.Order.meaning a.desk.now.order.now) (g.O.Order.meaning l.desk.order.now) (stacks a.desk.now) (stacks l.desk) a.calls.now (vec_items l.replies) l.call-index _ c.make.result
-          (machine a.file.now) (machine l.file) (machine c.make.new.file) a.slips.now l.slips c.make.new.slips
-          (map g.R.Record.meaning a.desk.now.records.now) (map g.R.Record.meaning l.desk.records.now) (map g.R.Record.meaning c.make.new.desk.records.now) a.desk.now.sheet.now l.desk.sheet.now c.make.new.desk.sheet.now
+          rw pushed (replayed_more _ _ _ _ a.calls.now (vec_items l.replies) l.call-index _ c.make.result _ _ _ a.slips.now l.slips _ _ _ _ _ _ _
           (ap (λ (r : _). g.O.Order.meaning r.now) v.kept.order) v.kept.room l.auto.slips c.loop-call-test.true v.replayed c.make.ensures.made);
       counted = grind (arith, common_steps);
       room = search rules;
