@@ -40,7 +40,7 @@ impl Settings {
         ensures low { result ≤ 2 }
         ensures few { length self.now ≤ 255 }
     {
-        if variable == 0 || variable > u32::from(self.n) {
+        if variable > u32::from(self.n) || variable == 0 {
             return 0;
         }
         self.bytes[variable as usize - 1]
