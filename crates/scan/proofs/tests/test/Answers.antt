@@ -39,10 +39,10 @@ loop-number-preserved c =
     let e = to_z-of_z w32 t f in
     elim c.match-look.branch [
       | in-Some-false w ↦
-        let v = ap (value σ) (sym e) ∙ (rw (w.in-Some-false.is, w.in-Some-false.field-0-test) at c.look.ensures.looks) in
-        one_more σ C i t _ _ c.loop-number-test.true refl w.so_far-is (tested_false σ (take i C) t c.loop-number.so_far v c.loop-number.invariant)
+          let v = ap (value σ) (sym e) ∙ (rw (w.in-Some-false.is, w.in-Some-false.field-0-test) at c.look.ensures.looks) in
+          one_more σ C i t _ _ c.loop-number-test.true refl w.so_far-is (tested_false σ (take i C) t c.loop-number.so_far v c.loop-number.invariant)
       | in-None+in-Some w ↦
-        one_more σ C i (code w.in-Some.t) _ _ c.loop-number-test.true (w.in-Some.ensures ∙ e) w.so_far-is
+          one_more σ C i (code w.in-Some.t) _ _ c.loop-number-test.true (w.in-Some.ensures ∙ e) w.so_far-is
           (w.further-so_far.ensures σ (take i C) (ap (value σ) w.in-Some.ensures ∙ w.in-None.ensures.looks) c.loop-number.invariant)
     ]
 
