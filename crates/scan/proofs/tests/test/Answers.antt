@@ -1,5 +1,5 @@
 use Rattle.std.proofs.Common.{◌≡◌, ℕ, ◌+◌, ◌<◌, List, [], ◌∷◌, ◌++◌, length, get_or, take, ℤ, pos, sym, refl, ap, ◌∙◌, arith, w32, SFits, rules}
-use Rattle.std.proofs.lemmas.List.{take_all, take_more}
+use Rattle.std.proofs.lemmas.List.{take_more}
 use Rattle.std.proofs.lemmas.Int.{to_z-of_z}
 use Rattle.model.specs.Search.{Setting, value}
 use Rattle.model.proofs.Members.{in_get_or}
@@ -45,6 +45,3 @@ loop-number-preserved c =
           one_more σ C i (code w.in-Some.t) _ _ c.loop-number-test.true (w.in-Some.ensures ∙ e) w.so_far-is
           (w.further-so_far.ensures σ (take i C) (ap (value σ) w.in-Some.ensures ∙ w.in-None.ensures.looks) c.loop-number.invariant)
     ]
-
-pub returns : goal.returns
-returns c = rw (← take_all c.loop-number.number-index c.args.literals.now c.loop-number-test.false) c.loop-number.invariant
