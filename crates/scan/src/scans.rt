@@ -11,17 +11,19 @@ use station::StationFile;
 fn add(so_far: Scan, k: u32, r: Test) -> Scan
     ensures { result ≡ added so_far k r }
 {
-    match so_far {
-        Scan::Conflict(_) => so_far,
-        Scan::Forced(_, _) => match r {
-            Test::AllFalse => Scan::Conflict(k),
+    match r {
+        Test::AllFalse => match so_far {
+            Scan::Conflict(_) => so_far,
+            _ => Scan::Conflict(k),
+        },
+        Test::Unit(t) => match so_far {
+            Scan::Satisfied | Scan::Undecided => Scan::Forced(k, t),
             _ => so_far,
         },
-        Scan::Satisfied | Scan::Undecided => match r {
-            Test::AllFalse => Scan::Conflict(k),
-            Test::Unit(t) => Scan::Forced(k, t),
-            Test::SomeTrue => so_far,
-            Test::Open => Scan::Undecided,
+        Test::SomeTrue => so_far,
+        Test::Open => match so_far {
+            Scan::Satisfied => Scan::Undecided,
+            _ => so_far,
         },
     }
 }
@@ -31,6 +33,7 @@ pub fn scan(file: &StationFile, settings: &Settings) -> Scan
     ensures { Scanned settings.now (machine file.now).clauses result }
 {
     let mut so_far = Scan::Satisfied;
+    // from 0: with `1..=file.clauses()` the whole search takes up to a quarter longer
     for i in 0..file.clauses() {
         let Some(literals) = file.show(i + 1) else {
             return unreachable();

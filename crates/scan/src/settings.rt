@@ -8,7 +8,7 @@ ghost use Rattle.scan.specs.Settings.{Looks};
 use clauses::Literal;
 use std::marker::Model;
 
-// What each of n variables is set to, in the bytes that an order is asked with: 0 for off, 1 for on and 2 for unset.
+// What each of n variables is set to: 0 for off, 1 for on and 2 for unset, in bytes since an order is asked with bytes.
 #[derive(Drop)]
 pub struct Settings {
     bytes: [u8; 255],
@@ -40,7 +40,7 @@ impl Settings {
         ensures low { result ≤ 2 }
         ensures few { length self.now ≤ 255 }
     {
-        if variable == 0 || variable > u32::from(self.n) {
+        if variable > u32::from(self.n) || variable == 0 {
             return 0;
         }
         self.bytes[variable as usize - 1]
@@ -82,6 +82,7 @@ impl Settings {
         }
     }
 
+    // The bytes of the n variables.
     pub fn bytes(&self) -> &[u8]
         ensures { result.now ≡ self.now }
     {

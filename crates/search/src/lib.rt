@@ -37,7 +37,7 @@ pub struct Frame {
     clause: LiteralSet,
 }
 
-// A stack over places that are lent to it: `settle` is lent its memory, so that it may refuse it.
+// A stack over places that are lent to it: the search has no heap, and `settle` declines memory that is too short.
 #[derive(Drop)]
 struct Stack<'a, T: Copy> {
     places: &'a mut [T],

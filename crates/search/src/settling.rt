@@ -56,11 +56,7 @@ fn write(settings: &[u8], sheet: &mut [u8])
 
 impl<'m> State<'m> {
     // The search before its first turn: nothing is set.
-    fn start(
-        file: &'m StationFile,
-        trail: &'m mut [Mark],
-        frames: &'m mut [Frame],
-    ) -> State<'m>
+    fn start(file: &'m StationFile, trail: &'m mut [Mark], frames: &'m mut [Frame]) -> State<'m>
         requires trail { (machine file.now).variables ≤ length trail.old }
         requires frames { (machine file.now).variables ≤ length frames.old }
         ensures file { machine_of result ≡ machine file.now }

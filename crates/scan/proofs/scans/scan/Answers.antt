@@ -1,9 +1,9 @@
 use Rattle.std.proofs.Common.{◌≡◌, ℕ, ◌+◌, ◌<◌, List, length, take, drop, Some, sym, subst, arith}
-use Rattle.std.proofs.lemmas.List.{take_all, take-append-drop, length-take-le}
+use Rattle.std.proofs.lemmas.List.{take-append-drop, length-take-le}
 use Rattle.model.specs.Clauses.{Clause}
 use Rattle.model.specs.Search.{Setting}
 use Rattle.model.specs.Machine.{clause_at}
-use Rattle.model.proofs.Numbered.{numbered_take, numbered_there}
+use Rattle.model.proofs.Numbered.{numbered_take}
 use Rattle.station.specs.Views.{machine}
 use Rattle.scan.specs.declared.Scan.{Scan}
 use Rattle.scan.specs.declared.Scan.TheVariants.{Conflict}
@@ -11,9 +11,6 @@ use Rattle.scan.specs.declared.Test.{Test}
 use Rattle.scan.specs.Tests.{Tested, Scanned, added}
 use Rattle.scan.proofs.Scanned.{added_scanned, conflict_more}
 use Rattle.scan.proofs.scans.scan.Goals as goal
-
-pub unreachable-requires : goal.unreachable-requires
-unreachable-requires c = numbered_there (machine c.args.file.now).clauses (c.loop-i.i + 1) (omega arith) (omega (arith, c.clauses-i-end.ensures)) c.in_default.ensures
 
 -- the clause numbered i + 1 is taken into the scan
 one_more : (σ : Setting) (F : List Clause) (i : ℕ) (C : Clause) (s s' : Scan) (r : Test) → i < length F → clause_at F (i + 1) ≡ Some C → Tested σ C r → Scanned σ (take i F) s
@@ -36,8 +33,3 @@ pub loop-i-preserved : goal.loop-i-preserved
 loop-i-preserved c =
     one_more c.args.settings.now (machine c.args.file.now).clauses c.loop-i.i _ c.loop-i.so_far c.add-so_far.result c.test.result
     (omega (arith, c.clauses-i-end.ensures)) c.in-Some.ensures c.test.ensures c.loop-i.invariant c.add-so_far.ensures
-
-pub returns : goal.returns
-returns c =
-    let F = (machine c.args.file.now).clauses in
-    subst (λ (G : List Clause). Scanned c.args.settings.now G c.loop-i.so_far) (take_all c.loop-i.i F (omega (arith, c.clauses-i-end.ensures))) c.loop-i.invariant

@@ -1,10 +1,8 @@
-use Rattle.std.proofs.Common.{◌≡◌, ℕ, ◌==◌, Bool, true, false, ◌&&◌, refl, subst, arith}
+use Rattle.std.proofs.Common.{◌≡◌, ℕ, ◌==◌, Bool, true, false, ◌&&◌, refl, arith}
 use Rattle.std.proofs.Math.Bool.{beq}
 use Rattle.std.proofs.lemmas.Bool.Decides.{nat_tests}
 use Rattle.clauses.specs.Sets.{code}
 use Rattle.clauses.proofs.Members.{code_same, same_code}
-use Rattle.scan.specs.declared.Test.{Test}
-use Rattle.scan.specs.Tests.{Tested}
 use Rattle.scan.proofs.Tested.{true_more, unit_first, unit_again, open_second, open_more}
 use Rattle.scan.proofs.tests.further.Goals as goal
 
@@ -23,19 +21,19 @@ other_parts i j false false h e f = grind (arith, nat_tests)
 
 pub returns-in-AllFalse : goal.returns-in-AllFalse
 returns-in-AllFalse c σ C e h =
-    unit_first σ C (code c.args.t) e (subst (λ (r : Test). Tested σ C r) c.in-AllFalse.is h)
+    unit_first σ C (code c.args.t) e (rw c.in-AllFalse.is at h)
 
 pub returns-then-eq : goal.returns-then-eq
 returns-then-eq c σ C e h =
-    unit_again σ C (code c.args.t) (code c.in-Unit.u) (let p = same_parts _ _ _ _ c.if-eq.ensures in same_code c.args.t c.in-Unit.u p.0 p.1) (subst (λ (r : Test). Tested σ C r) c.in-Unit.is h)
+    unit_again σ C (code c.args.t) (code c.in-Unit.u) (let p = same_parts _ _ _ _ c.if-eq.ensures in same_code c.args.t c.in-Unit.u p.0 p.1) (rw c.in-Unit.is at h)
 
 pub returns-else-eq : goal.returns-else-eq
 returns-else-eq c σ C e h =
-    open_second σ C (code c.args.t) (code c.in-Unit.u) e (λ q. let s = code_same c.args.t c.in-Unit.u q in other_parts _ _ _ _ c.if-eq.ensures s.0 s.1) (subst (λ (r : Test). Tested σ C r) c.in-Unit.is h)
+    open_second σ C (code c.args.t) (code c.in-Unit.u) e (λ q. let s = code_same c.args.t c.in-Unit.u q in other_parts _ _ _ _ c.if-eq.ensures s.0 s.1) (rw c.in-Unit.is at h)
 
 pub returns-in-SomeTrue : goal.returns-in-SomeTrue
-returns-in-SomeTrue c σ C e h = true_more σ C (code c.args.t) (subst (λ (r : Test). Tested σ C r) c.in-SomeTrue.is h)
+returns-in-SomeTrue c σ C e h = true_more σ C (code c.args.t) (rw c.in-SomeTrue.is at h)
 
 pub returns-in-Open : goal.returns-in-Open
 returns-in-Open c σ C e h =
-    open_more σ C (code c.args.t) e (subst (λ (r : Test). Tested σ C r) c.in-Open.is h)
+    open_more σ C (code c.args.t) e (rw c.in-Open.is at h)

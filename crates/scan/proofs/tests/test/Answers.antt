@@ -1,5 +1,5 @@
 use Rattle.std.proofs.Common.{◌≡◌, ℕ, ◌+◌, ◌<◌, List, [], ◌∷◌, ◌++◌, length, get_or, take, ℤ, pos, sym, refl, ap, ◌∙◌, arith, w32, SFits, rules}
-use Rattle.std.proofs.lemmas.List.{take_all, take_more}
+use Rattle.std.proofs.lemmas.List.{take_more}
 use Rattle.std.proofs.lemmas.Int.{to_z-of_z}
 use Rattle.model.specs.Search.{Setting, value}
 use Rattle.model.proofs.Members.{in_get_or}
@@ -39,12 +39,9 @@ loop-number-preserved c =
     let e = to_z-of_z w32 t f in
     elim c.match-look.branch [
       | in-Some-false w ↦
-        let v = ap (value σ) (sym e) ∙ (rw (w.in-Some-false.is, w.in-Some-false.field-0-test) at c.look.ensures.looks) in
-        one_more σ C i t _ _ c.loop-number-test.true refl w.so_far-is (tested_false σ (take i C) t c.loop-number.so_far v c.loop-number.invariant)
+          let v = ap (value σ) (sym e) ∙ (rw (w.in-Some-false.is, w.in-Some-false.field-0-test) at c.look.ensures.looks) in
+          one_more σ C i t _ _ c.loop-number-test.true refl w.so_far-is (tested_false σ (take i C) t c.loop-number.so_far v c.loop-number.invariant)
       | in-None+in-Ok w ↦
-        one_more σ C i (code w.in-Ok.t) _ _ c.loop-number-test.true (w.in-Ok.ensures ∙ e) w.so_far-is
+          one_more σ C i (code w.in-Ok.t) _ _ c.loop-number-test.true (w.in-Ok.ensures ∙ e) w.so_far-is
           (w.further-so_far.ensures σ (take i C) (ap (value σ) w.in-Ok.ensures ∙ w.in-None.ensures.looks) c.loop-number.invariant)
     ]
-
-pub returns : goal.returns
-returns c = rw (← take_all c.loop-number.number-index c.args.literals.now c.loop-number-test.false) c.loop-number.invariant

@@ -1,4 +1,4 @@
-use Rattle.std.proofs.Common.{ℕ, List, sym, ap, refl, ◌∙◌, subst}
+use Rattle.std.proofs.Common.{ℕ, List, sym, ap, ◌∙◌, subst}
 use Rattle.model.specs.Search.{Chosen, value}
 use Rattle.model.proofs.Failing.{chosen_unset}
 use Rattle.clauses.specs.Sets.{code}
@@ -19,18 +19,14 @@ set-requires-in-Undecided g c =
     let k = c.chosen-t.ensures in
     not_deep c.requires.going.0 _ _ _ c.requires.going.1 (code c.chosen-t.result) (ap (value (position c.args.self.now).settings) k.1 ∙ chosen_unset k.2)
 
-pub returns-in-Forced : goal.returns-in-Forced
-returns-in-Forced g c = record { file = c.set.ensures.file; tied = g.R.Record.stays _; advanced = λ run o s. going_forced run _ _ _ s c.in-Forced.k c.in-Forced.t (position c.set.new.self) c.in-Forced.ensures c.set.ensures.position }
+pub returns-in-Forced-clause-advanced : goal.returns-in-Forced-clause-advanced
+returns-in-Forced-clause-advanced g c = λ run o s. going_forced run _ _ _ s c.in-Forced.k c.in-Forced.t (position c.set.new.self) c.in-Forced.ensures c.set.ensures.position
 
-pub returns-in-Satisfied : goal.returns-in-Satisfied
-returns-in-Satisfied g c = record { file = refl; tied = g.R.Record.stays _; advanced = λ run o s. (going_fits run _ _ _ s c.in-Satisfied.ensures, going_length run _ _ _ s) }
+pub returns-in-Satisfied-clause-advanced : goal.returns-in-Satisfied-clause-advanced
+returns-in-Satisfied-clause-advanced g c = λ run o s. (going_fits run _ _ _ s c.in-Satisfied.ensures, going_length run _ _ _ s)
 
-pub returns-in-Undecided : goal.returns-in-Undecided
-returns-in-Undecided g c =
+pub returns-in-Undecided-clause-advanced : goal.returns-in-Undecided-clause-advanced
+returns-in-Undecided-clause-advanced g c =
     let k = c.chosen-t.ensures in
     let σ = (position c.args.self.now).settings in
-    record {
-      file = c.set-in-Undecided.ensures.file;
-      tied = g.R.Record.stays _;
-      advanced = λ run o s. going_chosen run _ _ _ s k.0 c.chosen-t.result (position c.set-in-Undecided.new.self) c.in-Undecided.ensures k.1 (subst (λ (xs : List ℕ). Chosen σ xs k.0) (sym o) k.2) c.set-in-Undecided.ensures.position;
-    }
+    λ run o s. going_chosen run _ _ _ s k.0 c.chosen-t.result (position c.set-in-Undecided.new.self) c.in-Undecided.ensures k.1 (subst (λ (xs : List ℕ). Chosen σ xs k.0) (sym o) k.2) c.set-in-Undecided.ensures.position

@@ -15,8 +15,3 @@ unreachable-requires-in_default-try_from g c =
     let low = chosen_low _ c.in-Some.k (chosen_unset c.in-Some.ensures) in
     let high : c.in-Some.k < 256 = search rules in
     subst (λ (t : ℤ). Within 256 t → ⊥) e c.in_default-try_from.ensures (low, omega arith)
-
-pub returns : goal.returns
-returns g c =
-    let f : SFits w32 c.from.result = search rules in
-    (c.in-Some.k, c.in-Ok.ensures ∙ to_z-of_z w32 c.from.result f ∙ c.from.ensures, rw (← c.bytes.ensures) c.in-Some.ensures)

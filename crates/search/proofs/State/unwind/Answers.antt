@@ -1,46 +1,18 @@
-use Rattle.std.proofs.Common.{Ok, Err, sym, refl, ap, ◌∙◌, subst, arith}
-use Rattle.std.proofs.lemmas.Result.{err_from_is_err_and}
-use Rattle.model.specs.Machine.{Machine}
+use Rattle.std.proofs.Common.{Ok, ap, ◌∙◌, arith}
 use Rattle.search.specs.declared.Turn.TheVariants.{Failing, Turned}
 use Rattle.search.specs.States.{Run, position, machine_of, Stuck, Stepped}
 use Rattle.search.proofs.Keeping.{stepped_there}
 use Rattle.search.proofs.State.unwind.Given.{Over}
 use Rattle.search.proofs.State.unwind.Goals as goal
 
-pub step_back-requires : goal.step_back-requires
-step_back-requires g c =
+pub returns-in-Turned-clause-unwound : goal.returns-in-Turned-clause-unwound
+returns-in-Turned-clause-unwound g c =
     let v = c.loop-self.invariant in
-    let run = c.requires.stuck.0 in
-    record {
-      deep = omega (arith, c.loop-self-test.true, c.height.ensures);
-      stuck = (run, subst (λ (m : Machine). Stuck run m (g.R.Record.meaning c.loop-self.record) (position c.loop-self.self) c.loop-self.failure) (sym v.0) (v.2 run c.requires.stuck.1));
-    }
-
-pub returns-in_err-step_back : goal.returns-in_err-step_back
-returns-in_err-step_back g c =
-    let v = c.loop-self.invariant in
-    let q = err_from_is_err_and c.from_residual.result c.from_residual.ensures.1 in
-    record {
-      file = c.step_back.ensures.file ∙ v.0;
-      tied = g.R.Record.joins _ _ _ v.1 c.step_back.ensures.tied;
-      unwound = λ run s. rw (q.1, q.2)
-          (stepped_there (machine_of c.args.self.now) (machine_of c.loop-self.self) v.0 run _ (g.R.Record.meaning c.step_back.new.record) (position c.loop-self.self) (position c.step_back.new.self)
-          c.loop-self.failure c.step_back.new.failure
-          (Err c.in_err-step_back.field-0.0) (Err c.in_err-step_back.field-0.0) refl (c.in_err-step_back.ensures.stepped run) (v.2 run s));
-    }
-
-pub returns-in-Turned : goal.returns-in-Turned
-returns-in-Turned g c =
-    let v = c.loop-self.invariant in
-    record {
-      file = c.step_back.ensures.file ∙ v.0;
-      tied = g.R.Record.joins _ _ _ v.1 c.step_back.ensures.tied;
-      unwound = λ run s.
+    λ run s.
           let k = stepped_there (machine_of c.args.self.now) (machine_of c.loop-self.self) v.0 run _ (g.R.Record.meaning c.step_back.new.record) (position c.loop-self.self) (position c.step_back.new.self)
           c.loop-self.failure c.step_back.new.failure
           (Ok c.in_ok-step_back.field-0) (Ok Turned) (ap Ok c.in-Turned.is) (c.in_ok-step_back.ensures.stepped run) (v.2 run s) in
-          (k.0, omega (arith, k.1, v.3));
-    }
+          (k.0, omega (arith, k.1, v.3))
 
 -- the search still fails, one setting further back
 still : (g : Over) (c : goal.In_default g) (run : Run) → Stuck run (machine_of c.args.self.now) (g.R.Record.meaning c.args.record.now) (position c.args.self.now) c.args.failure.now
@@ -58,8 +30,3 @@ pub loop-self-preserved : goal.loop-self-preserved
 loop-self-preserved g c =
     let v = c.loop-self.invariant in
     (c.step_back.ensures.file ∙ v.0, g.R.Record.joins _ _ _ v.1 c.step_back.ensures.tied, (λ run s. (still g c run s).0), omega (arith, v.3, (still g c c.requires.stuck.0 c.requires.stuck.1).2))
-
-pub returns : goal.returns
-returns g c =
-    let v = c.loop-self.invariant in
-    record { file = v.0; tied = v.1; unwound = λ run s. (v.2 run s, omega (arith, c.loop-self-test.false, c.height.ensures)) }

@@ -1,4 +1,4 @@
-use Rattle.std.proofs.Common.{◌≡◌, ℤ, refl, subst, arith}
+use Rattle.std.proofs.Common.{◌≡◌, ℤ, subst, arith}
 use Rattle.model.specs.Clauses.{Clause, ◌∈◌, Within}
 use Rattle.model.proofs.Numbered.{numbered_each}
 use Rattle.clauses.specs.Sets.{Holds}
@@ -7,11 +7,11 @@ use Rattle.station.specs.Views.{machine}
 use Rattle.station.proofs.Files.{over_file, small_file}
 use Rattle.search.proofs.moves.frame_of.Goals as goal
 
-pub returns : goal.returns
-returns c =
+pub returns-clause-holds : goal.returns-clause-holds
+returns-clause-holds c =
     let f = c.args.file.now in
     let shown = c.in-Some.ensures in
     let within = numbered_each (λ C. (t : ℤ) → t ∈ C → Within (machine f).variables t) (machine f).clauses c.args.k c.in-Some.literals.now (over_file f) shown in
     let few = small_file f in
     let h = holds_named c.of.result c.in-Some.literals.now c.of.ensures (λ t i. let w = within t i in (w.0, omega (arith, w.1, few))) in
-    record { by = refl; holds = λ C e. let q : c.in-Some.literals.now ≡ C = cc in subst (λ (X : Clause). Holds c.of.result X) q h }
+    λ C e. let q : c.in-Some.literals.now ≡ C = cc in subst (λ (X : Clause). Holds c.of.result X) q h

@@ -6,28 +6,20 @@ use Rattle.search.specs.States.{position, machine_of}
 use Rattle.search.proofs.Sheets.{allowed, going_begun, ran_begun, settled_begun}
 use Rattle.search.proofs.settling.settle.Goals as goal
 
-pub start-state-requires : goal.start-state-requires
-start-state-requires g c =
-    let a = allowed (machine c.args.file.now) (g.O.Order.meaning c.args.order.now) (g.R.Record.meaning c.args.record.now) (length c.args.sheet.now) (length c.args.trail.now) (length c.args.frames.now) c.in_ok-refusal.ensures in
-    record { trail = a.trail_long; frames = a.frames_long }
-
-pub run-requires : goal.run-requires
-run-requires g c =
+pub run-requires-clause-going : goal.run-requires-clause-going
+run-requires-clause-going g c =
     let o = g.O.Order.meaning c.args.order.now in
     let rec = g.R.Record.meaning c.args.record.now in
     let a = allowed (machine c.args.file.now) o rec (length c.args.sheet.now) (length c.args.trail.now) (length c.args.frames.now) c.in_ok-refusal.ensures in
-    record {
-      size = rw c.start-state.ensures.file a.size_is;
-      going = (record { order = o.list; before = rec }, refl, going_begun (machine c.args.file.now) o rec rec c.args.sheet.now (machine_of c.start-state.result) c.start-state.ensures.file (position c.start-state.result) c.start-state.ensures.position);
-    }
+    (record { order = o.list; before = rec }, refl, going_begun (machine c.args.file.now) o rec rec c.args.sheet.now (machine_of c.start-state.result) c.start-state.ensures.file (position c.start-state.result) c.start-state.ensures.position)
 
-pub returns-in_err-answer : goal.returns-in_err-answer
-returns-in_err-answer g c =
+pub returns-in_err-answer-clause-settles : goal.returns-in_err-answer-clause-settles
+returns-in_err-answer-clause-settles g c =
     let q = err_from_is_err_and c.from_residual-in_err-answer.result c.from_residual-in_err-answer.ensures.1 in
     let b = settled_begun (machine c.args.file.now) (g.O.Order.meaning c.args.order.now) (g.R.Record.meaning c.args.record.now) (g.R.Record.meaning c.run.new.record) c.args.sheet.now
     (machine_of c.start-state.result) c.start-state.ensures.file (position c.start-state.result) c.start-state.ensures.position (position c.run.new.self) (Err c.in_err-answer.field-0.0) c.in_err-answer.ensures.ran
     (length c.args.trail.now) (length c.args.frames.now) c.in_ok-refusal.ensures (over_file c.args.file.now) (g.O.Order.whole c.args.order.now) c.args.sheet.now refl in
-    record { tied = c.run.ensures.tied; settles = rw (q.1, q.2) b.0; worth = rw q.1 tt }
+    rw (q.1, q.2) b.0
 
 pub write-requires : goal.write-requires
 write-requires g c =
