@@ -2,10 +2,9 @@ use Rattle.std.proofs.Common.{◌≡◌, ℕ, zero, suc, ◌+◌, ◌-◌, ◌<�
 use Rattle.std.proofs.lemmas.List.{take_more}
 use Rattle.std.proofs.lemmas.Bool.{cases_Bool}
 use Rattle.std.proofs.lemmas.List.Recursion.{or_push}
-use Rattle.model.specs.Settling.{OrderMeaning}
-use Rattle.orders.specs.Listed.{numbers, holds, wanted, listed, tally, by_preference}
+use Rattle.orders.specs.Listed.{numbers, holds, wanted, listed, tally}
 
-pub holds_push : (xs : List ℕ) (p k : ℕ) → holds (xs ++ (p ∷ [])) k ≡ (holds xs k || eqb p k)
+holds_push : (xs : List ℕ) (p k : ℕ) → holds (xs ++ (p ∷ [])) k ≡ (holds xs k || eqb p k)
 holds_push xs p k = or_push (λ ys. holds ys k) (λ x. eqb x k) refl (λ x ys. refl) xs p
 
 -- the tally of a list that grows
@@ -46,7 +45,7 @@ pub tally_misses : (n : ℕ) (xs : List ℕ) (p : ℕ) → 0 < p → p ≤ n →
 tally_misses n xs p z h f = let e = tally_push n xs p z h f in let m = tally_most n (xs ++ (p ∷ [])) in omega arith
 
 -- one of 1 to n that is not listed yet is added
-pub wanted_adds : (n : ℕ) (xs : List ℕ) (p : ℕ) → 0 < p → p ≤ n → holds xs p ≡ false → listed n xs (p ∷ []) ≡ xs ++ (p ∷ [])
+wanted_adds : (n : ℕ) (xs : List ℕ) (p : ℕ) → 0 < p → p ≤ n → holds xs p ≡ false → listed n xs (p ∷ []) ≡ xs ++ (p ∷ [])
 wanted_adds n xs p z h f = let a : ltb 0 p ≡ true = lt-ltb 0 p z in let b : leb p n ≡ true = le-leb p n h in rw (a, b, f)
 
 -- a loop that adds
@@ -55,11 +54,10 @@ listed_push : (n : ℕ) (xs ks : List ℕ) (k : ℕ) → listed n xs (ks ++ (k �
 listed_push n xs [] k = refl
 listed_push n xs (j ∷ ks) k = listed_push n (cond (wanted n xs j) (xs ++ (j ∷ [])) xs) ks k
 
-pub listed_more : (n : ℕ) (xs ks : List ℕ) (i : ℕ) → i < length ks → listed n xs (take (i + 1) ks) ≡ listed n (listed n xs (take i ks)) (get_or ks i 0 ∷ [])
+listed_more : (n : ℕ) (xs ks : List ℕ) (i : ℕ) → i < length ks → listed n xs (take (i + 1) ks) ≡ listed n (listed n xs (take i ks)) (get_or ks i 0 ∷ [])
 listed_more n xs ks i h = ap (listed n xs) (take_more ks i 0 h) ∙ listed_push n xs (take i ks) (get_or ks i 0)
 
--- one turn: zs is ys with k added
-
+-- one turn: zs is ys with one more added
 pub adds_more : (n m : ℕ) (xs ys zs ks : List ℕ) (i : ℕ) → i < length ks → m ≡ n → ys ≡ listed n xs (take i ks) → zs ≡ listed m ys (get_or ks i 0 ∷ []) → zs ≡ listed n xs (take (i + 1) ks)
 adds_more n m xs ys zs ks i h s y z = z ∙ simp (s, y) (sym (listed_more n xs ks i h))
 
@@ -87,10 +85,6 @@ all_held n (suc m) xs j z h l = rw (listed_push n xs (numbers m) (suc m)) (⊎_e
     (λ (q : j < suc m). keeps_held n (listed n xs (numbers m)) (suc m ∷ []) j (all_held n m xs j z (omega arith) (omega arith)))
     (eq-or-lt_of_le h))
 
--- the calls that make an order by preference, one after the other
-pub preferred : (n s t u : ℕ) (xs ys zs ps : List ℕ) → s ≡ n → xs ≡ [] → t ≡ s → ys ≡ listed s xs ps → u ≡ t → zs ≡ listed t ys (numbers t)
-    → ◌≡◌ {A = OrderMeaning} (record { size = u; list = zs }) (by_preference n ps)
-preferred n s t u xs ys zs ps a b c d e f = cc
-
+-- a listing that was completed
 pub completed : (t u : ℕ) (ys zs : List ℕ) → u ≡ t → zs ≡ listed t ys (numbers t) → (k : ℕ) → 0 < k → k ≤ u → holds zs k ≡ true
 completed t u ys zs e f k z h = rw f (all_held t t ys k z (omega arith) (omega arith))

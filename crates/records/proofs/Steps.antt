@@ -1,4 +1,4 @@
-use Rattle.std.proofs.Common.{◌≡◌, ℕ, zero, suc, ◌+◌, ◌*◌, ◌<◌, ◌≤◌, List, [], ◌∷◌, ◌++◌, map, length, take, drop, Some, sym, refl, ap, ◌∙◌, ⊎_elim, eq-or-lt_of_le, arith}
+use Rattle.std.proofs.Common.{◌≡◌, ℕ, zero, suc, ◌+◌, ◌*◌, ◌<◌, ◌≤◌, List, [], ◌∷◌, ◌++◌, map, length, take, drop, Some, sym, refl, ap, ◌∙◌, arith}
 use borrow.Rule.Slice.PartMut.{put_mid}
 use Rattle.std.specs.List.{slice_get}
 use Rattle.std.specs.Simd.{first_chunks}
@@ -36,24 +36,6 @@ steps_more : (n : ℕ) (bs : List ℕ) → steps_in (n + 1) bs ≡ steps_in n bs
 unfolding steps_in
 steps_more n bs = let e : n + 1 ≡ suc n = omega arith in rw e
 
-nth_left : (xs : List Step) (x : Step) (k : ℕ) → k < length xs → slice_get (xs ++ (x ∷ [])) k ≡ slice_get xs k
-nth_left [] x k h = absurd (omega arith)
-nth_left (y ∷ ys) x zero h = refl
-nth_left (y ∷ ys) x (suc k) h = nth_left ys x k (omega arith)
-
-nth_last : (xs : List Step) (x : Step) (n : ℕ) → length xs ≡ n → slice_get (xs ++ (x ∷ [])) n ≡ Some x
-nth_last [] x n e = rw (sym e)
-nth_last (y ∷ ys) x n e = rw (sym e) (nth_last ys x (length ys) refl)
-
--- the step of the line at place k
-pub nth_step : (n k : ℕ) (bs : List ℕ) → k < n → slice_get (steps_in n bs) k ≡ Some (said (take 28 (drop (k * 28) bs)))
-unfolding steps_in
-nth_step zero k bs h = absurd (omega arith)
-nth_step (suc n) k bs h = ⊎_elim
-    (λ (e : suc k ≡ suc n). let f : k ≡ n = omega arith in rw f (nth_last (steps_in n bs) (said (take 28 (drop (n * 28) bs))) n (steps_count n bs)))
-    (λ (l : suc k < suc n). let z = steps_count n bs in nth_left (steps_in n bs) (said (take 28 (drop (n * 28) bs))) k (omega arith) ∙ nth_step n k bs (omega arith))
-    (eq-or-lt_of_le h)
-
 -- the lines that the bytes hold, one by one
 lines_at : (n k : ℕ) (bs : List ℕ) → k < n → slice_get (first_chunks 28 n bs) k ≡ Some (take 28 (drop (k * 28) bs))
 lines_at zero k bs h = absurd (omega arith)
@@ -73,9 +55,6 @@ steps_lines (suc n) m bs h =
 -- the bytes used are the lines of the steps that they say
 abbrev pub Exact : ℕ → List ℕ → Type 0
 Exact n bs = take (n * 28) bs ≡ lines (steps_in n bs)
-
-pub exact_same : (n : ℕ) (bs es : List ℕ) → take (n * 28) bs ≡ take (n * 28) es → Exact n es → Exact n bs
-exact_same n bs es e x = e ∙ (x ∙ ap lines (sym (steps_same n bs es e)))
 
 pub exact_none : (bs : List ℕ) → Exact 0 bs
 unfolding steps_in

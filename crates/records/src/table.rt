@@ -6,6 +6,7 @@ use super::{MOST, Record};
 use model::{Decline, Step};
 
 // Holds its steps in given places, the first 65,535 at most.
+// Beside Lines, not one with it: a record over blocks of N elements (tried) has a method and a contract more for each of the four lines that the two share.
 #[derive(Drop)]
 pub struct Table<'a> {
     // lent memory with a count beside it, by a rule of the project

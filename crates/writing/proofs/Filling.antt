@@ -1,12 +1,9 @@
--- More bytes in a count and in a buffer.
-use Rattle.std.proofs.Common.{◌≡◌, ℕ, zero, suc, ◌+◌, ◌-◌, ◌^◌, ◌≤◌, min, List, [], ◌∷◌, ◌++◌, length, take, drop, sym, refl, ap, ◌∙◌, ap₂, arith, length-append}
+-- More bytes in a buffer.
+use Rattle.std.proofs.Common.{◌≡◌, ℕ, zero, suc, ◌+◌, ◌-◌, ◌≤◌, min, List, [], ◌∷◌, ◌++◌, length, take, drop, sym, refl, ap, ◌∙◌, ap₂, arith, length-append}
 use borrow.Rule.Slice.PartMut.{put_mid}
 use Rattle.std.proofs.lemmas.List.{length-drop, length-take, take_all, take-append-drop, drop-drop, take_min, drop_min}
 use Rattle.std.proofs.lemmas.Slice.{take-put_mid, drop-put_mid}
-use Rattle.writing.specs.Sinks.{count, Filled, written}
-
-pub count_more : (x y : List ℕ) (n : ℕ) → n ≡ count x → min (n + length y) (2 ^ 64 - 1) ≡ count (x ++ y)
-count_more x y n e = omega (arith, length-append x y)
+use Rattle.writing.specs.Sinks.{Filled, written}
 
 take_both : (n : ℕ) (xs ys : List ℕ) → take n xs ++ take (n - length xs) ys ≡ take n (xs ++ ys)
 take_both zero xs ys = let e : 0 - length xs ≡ 0 = omega arith in rw e
@@ -24,7 +21,7 @@ filled_more before x bytes at f w y ys k end e m t =
     record {
       front = take-put_mid at k bytes ys end (omega arith) w ∙ (ap₂ ◌++◌ f.front put ∙ take_both (length before) x y);
       rest = drop-put_mid at k bytes ys end (omega arith) w n ∙ (ap (λ j. drop j bytes) e ∙ (sym (drop-drop k at bytes) ∙ (ap (drop k) f.rest
-      ∙ (ap (λ j. drop j zs) past ∙ (drop_min (length y) zs ∙ (drop-drop (length y) (length x) before ∙ ap (λ j. drop j before) (sym (length-append x y))))))));
+          ∙ (ap (λ j. drop j zs) past ∙ (drop_min (length y) zs ∙ (drop-drop (length y) (length x) before ∙ ap (λ j. drop j before) (sym (length-append x y))))))));
     }
 
 pub filled_none : (bytes : List ℕ) (at : ℕ) → at ≡ 0 → Filled bytes [] bytes at

@@ -17,9 +17,6 @@ literals_more (u ∷ ts) t = append_assoc (signed_decimal u) (32 ∷ literal_tex
 abbrev line : Clause → List ℕ
 line c = literal_texts c ++ (48 ∷ (10 ∷ []))
 
-line_first : (c : Clause) (rest : List ℕ) → (literal_texts c ++ (48 ∷ [])) ++ (10 ∷ rest) ≡ line c ++ rest
-line_first c rest = append_assoc (literal_texts c) (48 ∷ []) (10 ∷ rest) ∙ sym (append_assoc (literal_texts c) (48 ∷ (10 ∷ [])) rest)
-
 clauses_more : (cs : List Clause) (c : Clause) → clause_texts cs ++ line c ≡ clause_texts (cs ++ (c ∷ []))
 unfolding clause_texts
 clauses_more [] c = sym (append_assoc (literal_texts c) (48 ∷ []) (10 ∷ []))

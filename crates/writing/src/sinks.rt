@@ -11,7 +11,7 @@ pub(crate) trait Sink {
         ensures { Puts took self.old bytes.now self.new };
 }
 
-// How many bytes there were, up to the largest number.
+// How many bytes there were, up to the largest number: std has no writer that counts.
 #[derive(Drop)]
 pub(crate) struct Length {
     pub(crate) bytes: usize,
@@ -26,8 +26,10 @@ impl Sink for Length {
 }
 
 // The bytes fill a buffer from its front, as far as it goes; the first `at` places are filled.
+// Not std's Cursor, whose contract does not say that it stays over the buffer lent to it: what the buffer holds in the end would not be known.
 #[derive(Drop)]
 pub(crate) struct Front<'a> {
+    // lent memory with a count beside it, by a rule of the project
     buffer: &'a mut [u8],
     at: usize,
     ghost within: { at ≤ length buffer.now },

@@ -1,6 +1,5 @@
-use Rattle.std.proofs.Common.{◌≡◌, ◌≤◌, ◌++◌, length, take, drop, refl, ap, ◌∙◌, arith}
+use Rattle.std.proofs.Common.{◌≡◌, ◌≤◌, ◌++◌, length, take, drop, sym, ap, ◌∙◌, arith}
 use Rattle.std.proofs.lemmas.List.{take_at}
-use Rattle.std.proofs.lemmas.Bool.{ne_eqb, le-ltb}
 use Rattle.model.specs.Machine.{fresh}
 use Rattle.model.specs.Reading.{reading}
 use Rattle.model.specs.Writing.{text_of}
@@ -9,16 +8,12 @@ use Rattle.texts.proofs.Back.{reads_back}
 use Rattle.writing.proofs.Filling.{written_whole}
 use Rattle.writing.proofs.write.Goals as goal
 
-pub returns : goal.returns
-returns c =
+pub returns-clause-back : goal.returns-clause-back
+returns-clause-back c f l =
     let m = machine c.args.file.now in
     let t = text_of m in
     let before = c.args.buffer.now in
-    let k = c.text_length-length.ensures in
     let room : length t ≤ length before = omega arith in
     let e : c.fill.new.buffer ≡ t ++ drop (length t) before = c.fill.ensures ∙ written_whole t before room in
-    let front : take c.text_length-length.result c.fill.new.buffer ≡ t = ap (take c.text_length-length.result) e ∙ (ap (λ n. take n (t ++ drop (length t) before)) k ∙ take_at t (drop (length t) before) (length t) refl) in
-    record {
-      writes = (rw (ne_eqb m.variables 0 (λ z. omega arith), le-ltb (length before) (length t) room), k, e);
-      back = λ f l. ap (reading (fresh m.variables f)) front ∙ reads_back m f l;
-    }
+    let front : take c.text_length-length.result c.fill.new.buffer ≡ t = ap (take c.text_length-length.result) e ∙ take_at t (drop (length t) before) c.text_length-length.result (sym c.text_length-length.ensures) in
+    ap (reading (fresh m.variables f)) front ∙ reads_back m f l

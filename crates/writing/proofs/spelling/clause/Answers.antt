@@ -1,6 +1,6 @@
 use Rattle.std.proofs.Common.{[], ◌∷◌, ◌++◌, get_or, take, pos, sym, ap, ◌∙◌, w32, SFits, rules}
 use Rattle.std.specs.Fmt.{signed_decimal}
-use Rattle.std.proofs.lemmas.List.{take_all, take_more}
+use Rattle.std.proofs.lemmas.List.{take_more}
 use Rattle.std.proofs.lemmas.Int.{to_z-of_z}
 use Rattle.model.specs.Writing.{literal_texts}
 use Rattle.writing.specs.Sinks.{Puts}
@@ -23,11 +23,3 @@ loop-t-preserved g c =
     let q = puts_both took c.loop-t.sink c.number.new.sink c.put.new.self (signed_decimal t) (32 ∷ []) p c.put.ensures in
     puts_same took _ _ _ _ (literals_more (take i ts) t ∙ ap literal_texts (sym (take_more ts i (pos 0) c.loop-t-test.true)))
     (puts_both took c.args.sink.now c.loop-t.sink c.put.new.self (literal_texts (take i ts)) (signed_decimal t ++ (32 ∷ [])) c.loop-t.invariant q)
-
-pub returns : goal.returns
-returns g c =
-    let took = g.S.Sink.took in
-    let ts = c.args.literals.now in
-    let i = c.loop-t.t-index in
-    let p = puts_same took _ _ _ _ (ap literal_texts (take_all i ts c.loop-t-test.false)) c.loop-t.invariant in
-    puts_both took c.args.sink.now c.loop-t.sink c.put-2.new.self (literal_texts ts) (48 ∷ (10 ∷ [])) p c.put-2.ensures

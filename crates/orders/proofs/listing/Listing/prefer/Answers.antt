@@ -1,6 +1,4 @@
-use Rattle.std.proofs.Common.{ap, ◌∙◌}
-use Rattle.std.proofs.lemmas.List.{take_all}
-use Rattle.orders.specs.Listed.{listed}
+use Rattle.std.proofs.Common.{◌∙◌}
 use Rattle.orders.specs.Listing.{list_of}
 use Rattle.orders.proofs.Adding.{adds_more}
 use Rattle.orders.proofs.listing.Listing.prefer.Goals as goal
@@ -12,9 +10,3 @@ loop-p-preserved c =
     let ks = c.args.preferences.now in
     let i = c.loop-p.p-index in
     (c.add.ensures.sized ∙ v.0, adds_more t.size _ (list_of t) (list_of c.loop-p.self) (list_of c.add.new.self) ks i c.loop-p-test.true v.0 v.1 c.add.ensures.added)
-
-pub returns : goal.returns
-returns c =
-    let t = c.args.self.now in
-    let v = c.loop-p.invariant in
-    record { sized = v.0; added = v.1 ∙ ap (listed t.size (list_of t)) (take_all c.loop-p.p-index c.args.preferences.now c.loop-p-test.false) }
