@@ -87,6 +87,25 @@ parts_pass p a n (e ∷ es) xs r l h =
     let u : drop a (take (a + (e - a)) xs) ≡ take (e - a) (drop a xs) = drop-take a (e - a) xs in
     (ap (every p) (sym u) ∙ every_rest p a (take (a + (e - a)) xs) t, parts_pass p e n es xs q l h)
 
+-- the first part, and those after it
+module _ (xs : List ℤ) (a e : ℕ) (ds es : List ℕ) (c : ds ≡ e ∷ es) (r : rises a ds ≡ true) (l : last_of a ds ≤ length xs) where
+  first_up : a ≤ e
+  first_up = rises_first a e es (ap (rises a) (sym c) ∙ r)
+
+  pub after_rises : rises e es ≡ true
+  after_rises = rises_rest a e es (ap (rises a) (sym c) ∙ r)
+
+  pub after_last : last_of e es ≤ length xs
+  unfolding last_of
+  after_last = rw c at l
+
+  pub first_lies : (a ≤ e) × (e ≤ length xs)
+  first_lies = (first_up, omega (arith, last_above e es after_rises, after_last))
+
+  pub first_part : parts xs a ds ≡ take (e - a) (drop a xs) ∷ parts xs e es
+  unfolding parts
+  first_part = ap (parts xs a) c
+
 -- one part more
 
 pub parts_push : (a : ℕ) (es : List ℕ) (e : ℕ) (xs : List ℤ) → parts xs a (es ++ (e ∷ [])) ≡ parts xs a es ++ (take (e - last_of a es) (drop (last_of a es) xs) ∷ [])

@@ -1,9 +1,10 @@
 // What can be asked of a file: questions change nothing.
 ghost use Rattle.std.specs.Prelude.{◌≡◌, ◌≤◌, length, take};
 ghost use Rattle.station.specs.Cuts.{start_of};
+ghost use Rattle.station.specs.Left.{clauses_left};
 ghost use Rattle.station.specs.Views.{machine, Shown};
 
-use super::StationFile;
+use super::{Clauses, StationFile};
 
 impl StationFile {
     // The literals of the clause numbered k, from 1, or nothing where no clause k stands.
@@ -38,6 +39,18 @@ impl StationFile {
         ensures { result ≡ (machine self.now).variables }
     {
         self.variables
+    }
+
+    // The clauses that stand, in their order.
+    #[tactic(auto, unfolding(crate::specs::Views::machine, crate::specs::Views::machine_in, crate::specs::Views::standing))]
+    pub fn iter(&self) -> Clauses<'_>
+        ensures { clauses_left result ≡ (machine self.now).clauses }
+    {
+        Clauses {
+            lits: &self.tables.lits,
+            ends: &self.tables.ends[..self.counts.clauses as usize],
+            from: 0,
+        }
     }
 
     // How many clauses stand.
