@@ -8,6 +8,7 @@ use super::{Clauses, StationFile};
 
 impl StationFile {
     // The literals of the clause numbered k, from 1, or nothing where no clause k stands.
+    #[tactic(auto, using(crate::proofs::Files::lies, crate::proofs::Files::shown, crate::proofs::Files::count_is, crate::proofs::Cuts::nth_past))]
     pub fn show(&self, k: u32) -> Option<&[i32]>
         ensures { Shown (machine self.now) k result }
     {
@@ -24,6 +25,7 @@ impl StationFile {
     }
 
     // Where the literals of the clause at place i begin.
+    #[tactic(auto, using(crate::proofs::Files::start_before), unfolding(crate::specs::Cuts::start_of))]
     pub(crate) fn start_of(&self, i: usize) -> usize
         requires { i ≤ self.now.counts.clauses }
         ensures { result ≡ start_of 0 (take self.now.counts.clauses self.now.tables.ends) i }

@@ -6,22 +6,10 @@ use Rattle.station.proofs.Files.{count_is}
 use Rattle.station.proofs.Slips.{start_fits, cut_sound, cut_standing}
 use Rattle.station.proofs.StationFile.cut.Goals as goal
 
-pub overflow_cast-literals : goal.overflow_cast-literals
-overflow_cast-literals c =
-    let f = c.args.self.now in
-    let b = start_fits f c.args.kept c.if-kept-self.true in
-    record { fits = omega (arith, b, c.start_of-literals.ensures, f.sound.literals) }
-
 pub invariant_of-self : goal.invariant_of-self
 invariant_of-self c =
     let f = c.args.self.now in
     record { few_variables = f.few_variables; sound = cut_sound f c.args.kept c.if-kept-self.true c.start_of-literals.result c.start_of-literals.ensures }
-
-pub returns-then-kept-self : goal.returns-then-kept-self
-unfolding machine machine_in
-returns-then-kept-self c =
-    let f = c.args.self.now in
-    machine_path _ _ refl refl (cut_standing f c.args.kept c.if-kept-self.true c.start_of-literals.result) refl
 
 pub returns-else-kept-self : goal.returns-else-kept-self
 unfolding machine machine_in
