@@ -32,7 +32,7 @@ between_same a e n xs ys h k t =
     let f : take (a + (e - a)) xs ≡ take (a + (e - a)) ys = rw s (front_same e n xs ys k t) in
     sym (drop-take a (e - a) xs) ∙ (ap (drop a) f ∙ drop-take a (e - a) ys)
 
-last_above : (a : ℕ) (es : List ℕ) → rises a es ≡ true → a ≤ last_of a es
+pub last_above : (a : ℕ) (es : List ℕ) → rises a es ≡ true → a ≤ last_of a es
 unfolding last_of
 last_above a [] r = omega arith
 last_above a (e ∷ es) r = let h = last_above e es (rises_rest a e es r) in let k = rises_first a e es r in omega arith
@@ -86,25 +86,6 @@ parts_pass p a n (e ∷ es) xs r l h =
     let t : every p (take (a + (e - a)) xs) ≡ true = rw (s, sym (take-take e n xs w)) (every_first p e (take n xs) h) in
     let u : drop a (take (a + (e - a)) xs) ≡ take (e - a) (drop a xs) = drop-take a (e - a) xs in
     (ap (every p) (sym u) ∙ every_rest p a (take (a + (e - a)) xs) t, parts_pass p e n es xs q l h)
-
--- the first part, and those after it
-module _ (xs : List ℤ) (a e : ℕ) (ds es : List ℕ) (c : ds ≡ e ∷ es) (r : rises a ds ≡ true) (l : last_of a ds ≤ length xs) where
-  first_up : a ≤ e
-  first_up = rises_first a e es (ap (rises a) (sym c) ∙ r)
-
-  pub after_rises : rises e es ≡ true
-  after_rises = rises_rest a e es (ap (rises a) (sym c) ∙ r)
-
-  pub after_last : last_of e es ≤ length xs
-  unfolding last_of
-  after_last = rw c at l
-
-  pub first_lies : (a ≤ e) × (e ≤ length xs)
-  first_lies = (first_up, omega (arith, last_above e es after_rises, after_last))
-
-  pub first_part : parts xs a ds ≡ take (e - a) (drop a xs) ∷ parts xs e es
-  unfolding parts
-  first_part = ap (parts xs a) c
 
 -- one part more
 

@@ -81,7 +81,3 @@ module _ (f : StationFile) where
       let low : k - 1 < f.counts.clauses = omega arith in
       let b = bounds (k - 1) low in
       (omega (arith, b.0), b.1)
-
-pub clause_at_place : (F : List Clause) (k : ℕ) → (k ≡ 0 → ⊥) → clause_at F k ≡ slice_get F (k - 1)
-clause_at_place F zero h = absurd (h refl)
-clause_at_place F (suc k) h = let e : k ≡ suc k - 1 = omega arith in ap (slice_get F) e

@@ -22,6 +22,7 @@ impl<'a> Iterator for Clauses<'a> {
 
     ghost remaining = { item_count clauses_left };
 
+    #[tactic(auto, using(crate::proofs::Cuts::last_above), unfolding(crate::specs::Cuts::rises, crate::specs::Cuts::last_of, crate::specs::Cuts::parts))]
     fn next(&mut self) -> Option<&'a [i32]> {
         let (end, others) = self.ends.split_first()?;
         let (from, to) = (self.from, *end as usize);
