@@ -1,9 +1,9 @@
 -- What every station file is: its clauses speak of its variables, and there are few of both.
-use Rattle.std.proofs.Common.{◌≡◌, ℕ, zero, suc, ◌-◌, ◌<◌, ◌≤◌, List, length, get_or, take, drop, Some, sym, refl, ap, ◌∙◌, arith}
+use Rattle.std.proofs.Common.{◌≡◌, ℕ, suc, ◌-◌, ◌<◌, ◌≤◌, List, length, get_or, take, drop, Some, sym, ap, ◌∙◌, arith}
 use Rattle.std.specs.List.{slice_get}
 use Rattle.std.proofs.lemmas.List.{length-take-le, get_or-take}
-use Rattle.model.specs.Clauses.{Clause, Over}
-use Rattle.model.specs.Machine.{names, literals, clause_at}
+use Rattle.model.specs.Clauses.{Over}
+use Rattle.model.specs.Machine.{names, literals}
 use Rattle.model.proofs.Merging.{clauses_over}
 use Rattle.station.specs.declared.Counts.{Counts}
 use Rattle.station.specs.declared.StationFile.{StationFile}

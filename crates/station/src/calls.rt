@@ -48,6 +48,7 @@ impl StationFile {
     }
 
     // Enters a clause, equal literals merged, and answers its number.
+    #[tactic(auto, using(crate::proofs::Files::count_is, std::proofs::lemmas::List::take_all), unfolding(crate::specs::Views::machine))]
     pub fn enter(&mut self, literals: &[i32]) -> Result<u32, Decline>
         ensures { Enters (machine self.old) literals.now (machine self.new) result }
     {

@@ -83,7 +83,7 @@ impl StationFile {
     }
 
     // Keeps the first clauses, at most so many, and frees the numbers and the literals of the others.
-    #[tactic(auto, using(crate::proofs::Slips::start_fits, crate::proofs::Slips::cut_sound, crate::proofs::Slips::cut_standing, crate::proofs::Files::count_is), unfolding(crate::specs::Views::machine, crate::specs::Views::machine_in))]
+    #[tactic(auto, using(crate::proofs::Slips::start_fits, crate::proofs::Slips::cut_sound, crate::proofs::Slips::cut_standing, crate::proofs::Files::count_is, std::proofs::lemmas::List::take_all), unfolding(crate::specs::Views::machine, crate::specs::Views::machine_in))]
     fn cut(&mut self, kept: u16)
         ensures { machine self.new ≡ cut_to kept (machine self.old) }
     {
