@@ -15,15 +15,12 @@ use Rattle.station.proofs.Cuts.{length_parts, literals_parts, parts_pass, start_
 
 module _ (n : ℕ) (t : Tables) (k : Counts) (s : Sound n t k) where
   pub sound_over : Over n (standing t k)
-  unfolding standing
   sound_over = clauses_over n _ (parts_pass (names n) 0 k.literals (take k.clauses t.ends) t.lits s.rising (omega (arith, s.last)) s.named)
 
   pub literals_are : literals (standing t k) ≡ k.literals
-  unfolding standing
   literals_are = omega (arith, literals_parts 0 (take k.clauses t.ends) t.lits s.rising (omega (arith, s.last, s.literals, s.wide)), s.last)
 
   pub clauses_are : length (standing t k) ≡ k.clauses
-  unfolding standing
   clauses_are = length_parts 0 (take k.clauses t.ends) t.lits ∙ length-take-le k.clauses t.ends (omega (arith, s.tall, s.clauses))
 
 pub over_file : (f : StationFile) → Over (machine f).variables (machine f).clauses
@@ -72,7 +69,7 @@ module _ (f : StationFile) where
         (omega (arith, b.0, here), omega (arith, b.1, here, f.sound.last, f.sound.literals))
 
     pub shown : slice_get (machine f).clauses i ≡ Some (take (get_or f.tables.ends i 0 - start_of 0 (ends_of f) i) (drop (start_of 0 (ends_of f) i) f.tables.lits))
-    unfolding machine machine_in standing
+    unfolding machine machine_in
     shown = nth_part 0 (ends_of f) i f.tables.lits inside ∙ ap (λ e. Some (take (e - start_of 0 (ends_of f) i) (drop (start_of 0 (ends_of f) i) f.tables.lits))) here
 
   -- where the clause numbered k lies

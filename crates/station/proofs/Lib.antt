@@ -5,5 +5,5 @@ pub mod Appending
 pub mod Pushed
 pub mod Fronts
 pub mod Going
-pub mod Slips
+pub mod Kept
 pub mod Tried

@@ -44,7 +44,7 @@ impl StationFile {
     }
 
     // The clauses that stand, in their order.
-    #[tactic(auto, unfolding(crate::specs::Views::machine, crate::specs::Views::machine_in, crate::specs::Views::standing))]
+    #[tactic(auto, unfolding(crate::specs::Views::machine, crate::specs::Views::machine_in))]
     pub fn iter(&self) -> Clauses<'_>
         ensures { clauses_left result ≡ (machine self.now).clauses }
     {
