@@ -6,4 +6,3 @@ pub mod Pushed
 pub mod Fronts
 pub mod Going
 pub mod Kept
-pub mod Tried
