@@ -103,7 +103,6 @@ module _ (n : ℕ) (t : Tables) (k : Counts) (s : Sound n t k) (ts : List ℤ) (
     new_fronts = record { lits = front; ends = ap (take k.clauses) b ∙ take-set t.ends k.clauses to; low = omega arith; count = omega arith }
 
     new_standing : standing t' more ≡ standing t k ++ (C ∷ [])
-    unfolding standing
     new_standing =
         let old : parts t'.lits 0 (take k.clauses t.ends) ≡ parts t.lits 0 (take k.clauses t.ends) = parts_same 0 k.literals (take k.clauses t.ends) t'.lits t.lits s.rising (omega (arith, s.last)) front in
         let e : take (to - last_of 0 (take k.clauses t.ends)) (drop (last_of 0 (take k.clauses t.ends)) t'.lits) ≡ C = ap (λ x. take (to - x) (drop x t'.lits)) s.last ∙ last_part in

@@ -32,7 +32,7 @@ between_same a e n xs ys h k t =
     let f : take (a + (e - a)) xs ≡ take (a + (e - a)) ys = rw s (front_same e n xs ys k t) in
     sym (drop-take a (e - a) xs) ∙ (ap (drop a) f ∙ drop-take a (e - a) ys)
 
-last_above : (a : ℕ) (es : List ℕ) → rises a es ≡ true → a ≤ last_of a es
+pub last_above : (a : ℕ) (es : List ℕ) → rises a es ≡ true → a ≤ last_of a es
 unfolding last_of
 last_above a [] r = omega arith
 last_above a (e ∷ es) r = let h = last_above e es (rises_rest a e es r) in let k = rises_first a e es r in omega arith

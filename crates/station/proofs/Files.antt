@@ -1,9 +1,9 @@
 -- What every station file is: its clauses speak of its variables, and there are few of both.
-use Rattle.std.proofs.Common.{◌≡◌, ℕ, zero, suc, ◌-◌, ◌<◌, ◌≤◌, List, length, get_or, take, drop, Some, sym, refl, ap, ◌∙◌, arith}
+use Rattle.std.proofs.Common.{◌≡◌, ℕ, suc, ◌-◌, ◌<◌, ◌≤◌, List, length, get_or, take, drop, Some, sym, ap, ◌∙◌, arith}
 use Rattle.std.specs.List.{slice_get}
 use Rattle.std.proofs.lemmas.List.{length-take-le, get_or-take}
-use Rattle.model.specs.Clauses.{Clause, Over}
-use Rattle.model.specs.Machine.{names, literals, clause_at}
+use Rattle.model.specs.Clauses.{Over}
+use Rattle.model.specs.Machine.{names, literals}
 use Rattle.model.proofs.Merging.{clauses_over}
 use Rattle.station.specs.declared.Counts.{Counts}
 use Rattle.station.specs.declared.StationFile.{StationFile}
@@ -15,15 +15,12 @@ use Rattle.station.proofs.Cuts.{length_parts, literals_parts, parts_pass, start_
 
 module _ (n : ℕ) (t : Tables) (k : Counts) (s : Sound n t k) where
   pub sound_over : Over n (standing t k)
-  unfolding standing
   sound_over = clauses_over n _ (parts_pass (names n) 0 k.literals (take k.clauses t.ends) t.lits s.rising (omega (arith, s.last)) s.named)
 
   pub literals_are : literals (standing t k) ≡ k.literals
-  unfolding standing
   literals_are = omega (arith, literals_parts 0 (take k.clauses t.ends) t.lits s.rising (omega (arith, s.last, s.literals, s.wide)), s.last)
 
   pub clauses_are : length (standing t k) ≡ k.clauses
-  unfolding standing
   clauses_are = length_parts 0 (take k.clauses t.ends) t.lits ∙ length-take-le k.clauses t.ends (omega (arith, s.tall, s.clauses))
 
 pub over_file : (f : StationFile) → Over (machine f).variables (machine f).clauses
@@ -72,7 +69,7 @@ module _ (f : StationFile) where
         (omega (arith, b.0, here), omega (arith, b.1, here, f.sound.last, f.sound.literals))
 
     pub shown : slice_get (machine f).clauses i ≡ Some (take (get_or f.tables.ends i 0 - start_of 0 (ends_of f) i) (drop (start_of 0 (ends_of f) i) f.tables.lits))
-    unfolding machine machine_in standing
+    unfolding machine machine_in
     shown = nth_part 0 (ends_of f) i f.tables.lits inside ∙ ap (λ e. Some (take (e - start_of 0 (ends_of f) i) (drop (start_of 0 (ends_of f) i) f.tables.lits))) here
 
   -- where the clause numbered k lies
@@ -81,7 +78,3 @@ module _ (f : StationFile) where
       let low : k - 1 < f.counts.clauses = omega arith in
       let b = bounds (k - 1) low in
       (omega (arith, b.0), b.1)
-
-pub clause_at_place : (F : List Clause) (k : ℕ) → (k ≡ 0 → ⊥) → clause_at F k ≡ slice_get F (k - 1)
-clause_at_place F zero h = absurd (h refl)
-clause_at_place F (suc k) h = let e : k ≡ suc k - 1 = omega arith in ap (slice_get F) e

@@ -5,7 +5,7 @@ use Rattle.station.specs.declared.Counts.{Counts}
 use Rattle.station.specs.declared.Tables.{Tables}
 use Rattle.station.specs.Cuts.{parts, last_of, rises}
 use Rattle.station.specs.Tables.{Sound}
-use Rattle.station.specs.Views.{standing, machine_in}
+use Rattle.station.specs.Views.{machine_in}
 use Rattle.station.specs.Hands.{Fronts}
 use Rattle.station.proofs.Cuts.{parts_same, front_same}
 
@@ -34,7 +34,7 @@ module _ (n : ℕ) (t t' : Tables) (k k' : Counts) (s : Sound n t k) (s' : Sound
   }
 
   pub left_machine : (number : ℕ) (trials : List ℕ) → machine_in n number t' k trials ≡ machine_in n number t k trials
-  unfolding machine_in standing
+  unfolding machine_in
   left_machine number trials =
       let same : parts t'.lits 0 (take k.clauses t'.ends) ≡ parts t.lits 0 (take k.clauses t.ends) = ap (parts t'.lits 0) f.ends ∙ parts_same 0 k.literals (take k.clauses t.ends) t'.lits t.lits s.rising (omega (arith, s.last)) f.lits in
       ap (λ F. record { variables = n; number = number; clauses = F; trials = trials }) same

@@ -5,5 +5,4 @@ pub mod Appending
 pub mod Pushed
 pub mod Fronts
 pub mod Going
-pub mod Slips
-pub mod Tried
+pub mod Kept

@@ -4,3 +4,4 @@ pub mod Views
 pub mod Hands
 pub mod Readings
 pub mod Clients
+pub mod Left

@@ -11,7 +11,7 @@ use Rattle.station.specs.declared.trials.Slip.{Slip}
 use Rattle.station.specs.Cuts.{parts}
 
 -- the clauses that stand: the literals, cut at the ends
-unfoldable pub standing : Tables → Counts → List Clause
+abbrev pub standing : Tables → Counts → List Clause
 standing t k = parts t.lits 0 (take k.clauses t.ends)
 
 -- the machine that the parts of a file stand for
@@ -30,7 +30,7 @@ abbrev pub Shown : Machine → ℕ → Option (Bor (List ℤ)) → Type 0
 Shown m k None = clause_at m.clauses k ≡ None
 Shown m k (Some r) = clause_at m.clauses k ≡ Some r.now
 
-unfoldable pub state_of : Option Held → SlipState
+abbrev pub state_of : Option Held → SlipState
 state_of None = blank
 state_of (Some h) = filled h.file h.depth
 

@@ -10,7 +10,7 @@ use model::Decline;
 
 impl StationFile {
     // A file that was never started.
-    #[tactic(auto, unfolding(crate::specs::Views::machine, crate::specs::Views::machine_in, crate::specs::Views::standing, crate::specs::Cuts::parts, crate::specs::Cuts::rises, crate::specs::Cuts::last_of))]
+    #[tactic(auto, unfolding(crate::specs::Views::machine, crate::specs::Views::machine_in, crate::specs::Cuts::parts))]
     pub fn new() -> StationFile
         ensures { machine result ≡ fresh 0 0 }
     {
@@ -27,7 +27,7 @@ impl StationFile {
     }
 
     // Leaves a fresh file of so many variables, under this number, and so begins a life of which the law of lives holds.
-    #[tactic(auto, unfolding(crate::specs::Views::machine, crate::specs::Views::machine_in, crate::specs::Views::standing, crate::specs::Cuts::parts, crate::specs::Cuts::rises, crate::specs::Cuts::last_of))]
+    #[tactic(auto, unfolding(crate::specs::Views::machine, crate::specs::Views::machine_in, crate::specs::Cuts::parts))]
     pub fn start(&mut self, variables: u32, number: u32) -> Result<(), Decline>
         ensures starts { Starts (machine self.old) variables number (machine self.new) result }
         ensures lives { BeginsLife (machine self.new) result }
@@ -48,6 +48,7 @@ impl StationFile {
     }
 
     // Enters a clause, equal literals merged, and answers its number.
+    #[tactic(auto, using(crate::proofs::Files::count_is, std::proofs::lemmas::List::take_all), unfolding(crate::specs::Views::machine))]
     pub fn enter(&mut self, literals: &[i32]) -> Result<u32, Decline>
         ensures { Enters (machine self.old) literals.now (machine self.new) result }
     {

@@ -25,6 +25,7 @@ impl Hand {
         }
     }
 
+    #[tactic(auto, using(crate::proofs::Appending::fits, model::proofs::Merging::none_merged))]
     pub(crate) fn is_empty(&self) -> bool
         ensures { (n : ℕ) (ts : List ℤ) → Holds n self.now ts → Tells result (ts ≡ []) }
     {
@@ -32,7 +33,6 @@ impl Hand {
     }
 
     // Adds a literal. One out of range is the decline, whatever came before.
-    #[tactic(auto, using(crate::proofs::Pushed::any_has))]
     pub(crate) fn push(&mut self, t: i32)
         ensures size { self.new.variables ≡ self.old.variables }
         ensures joins { self.new.clause ≡ joined self.old.variables self.old.clause t }
@@ -57,6 +57,7 @@ impl Hand {
 
 impl Tables {
     // Enters the clause in hand after the others, or says why not.
+    #[tactic(auto, using(crate::proofs::Appending::declined), unfolding(crate::specs::Views::machine_in))]
     pub(crate) fn append(&mut self, counts: Counts, hand: &Hand) -> Result<Counts, Decline>
         ensures { (n : ℕ) (ts : List ℤ) → Sound n self.old counts → Holds n hand.now ts → Appended n self.old counts ts self.new result }
     {

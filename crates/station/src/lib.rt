@@ -5,6 +5,7 @@ ghost use Rattle.std.specs.Prelude.{◌<◌, ◌≤◌};
 ghost use Rattle.station.specs.Tables.{Sound};
 
 pub mod calls;
+pub mod clauses;
 pub mod clients;
 pub mod entering;
 pub mod questions;
@@ -14,6 +15,7 @@ mod tests;
 pub mod trials;
 
 use arrayvec::ArrayVec;
+pub use clauses::Clauses;
 use model::Decline;
 pub use trials::Slip;
 

@@ -1,12 +1,14 @@
 // What can be asked of a file: questions change nothing.
 ghost use Rattle.std.specs.Prelude.{◌≡◌, ◌≤◌, length, take};
 ghost use Rattle.station.specs.Cuts.{start_of};
+ghost use Rattle.station.specs.Left.{clauses_left};
 ghost use Rattle.station.specs.Views.{machine, Shown};
 
-use super::StationFile;
+use super::{Clauses, StationFile};
 
 impl StationFile {
     // The literals of the clause numbered k, from 1, or nothing where no clause k stands.
+    #[tactic(auto, using(crate::proofs::Files::lies, crate::proofs::Files::shown, crate::proofs::Files::count_is, crate::proofs::Cuts::nth_past))]
     pub fn show(&self, k: u32) -> Option<&[i32]>
         ensures { Shown (machine self.now) k result }
     {
@@ -23,6 +25,7 @@ impl StationFile {
     }
 
     // Where the literals of the clause at place i begin.
+    #[tactic(auto, using(crate::proofs::Files::start_before), unfolding(crate::specs::Cuts::start_of))]
     pub(crate) fn start_of(&self, i: usize) -> usize
         requires { i ≤ self.now.counts.clauses }
         ensures { result ≡ start_of 0 (take self.now.counts.clauses self.now.tables.ends) i }
@@ -38,6 +41,18 @@ impl StationFile {
         ensures { result ≡ (machine self.now).variables }
     {
         self.variables
+    }
+
+    // The clauses that stand, in their order.
+    #[tactic(auto, unfolding(crate::specs::Views::machine, crate::specs::Views::machine_in))]
+    pub fn iter(&self) -> Clauses<'_>
+        ensures { clauses_left result ≡ (machine self.now).clauses }
+    {
+        Clauses {
+            lits: &self.tables.lits,
+            ends: &self.tables.ends[..self.counts.clauses as usize],
+            from: 0,
+        }
     }
 
     // How many clauses stand.

@@ -36,6 +36,7 @@ impl Drop for Guard<'_> {
 }
 
 // Whether the text may end here: with no literals in hand, and as many clauses as its problem line says.
+#[tactic(auto, using(texts::proofs::Course::ends_inside, texts::proofs::Course::other_count, texts::proofs::Course::ends_well))]
 fn ended(declared: u32, done: u32, hand: &Hand, size: usize) -> Result<(), TextFault>
     ensures { Ended declared done hand.now size result }
 {

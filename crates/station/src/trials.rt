@@ -12,14 +12,14 @@ pub struct Slip {
 }
 
 impl Slip {
-    #[tactic(auto, unfolding(crate::specs::Views::slip_state, crate::specs::Views::state_of))]
+    #[tactic(auto, unfolding(crate::specs::Views::slip_state))]
     pub fn blank() -> Slip
         ensures { slip_state result ≡ blank }
     {
         Slip { held: None }
     }
 
-    #[tactic(auto, unfolding(crate::specs::Views::slip_state, crate::specs::Views::state_of))]
+    #[tactic(auto, unfolding(crate::specs::Views::slip_state))]
     pub fn is_blank(&self) -> bool
         ensures { result ≡ is_blank (slip_state self.now) }
     {
@@ -38,7 +38,7 @@ impl Drop for Slip {
 
 impl StationFile {
     // Opens a trial, and fills the slip with the file's number and the trial's depth.
-    #[tactic(auto, using(crate::proofs::Files::count_is), unfolding(crate::specs::Views::machine, crate::specs::Views::machine_in, crate::specs::Views::slip_state, crate::specs::Views::state_of))]
+    #[tactic(auto, unfolding(crate::specs::Views::machine, crate::specs::Views::machine_in, crate::specs::Views::slip_state))]
     pub fn open(&mut self, slip: &mut Slip) -> Result<(), Decline>
         ensures { Opens (machine self.old) (slip_state slip.old) (machine self.new) (slip_state slip.new) result }
     {
@@ -60,7 +60,7 @@ impl StationFile {
     }
 
     // Closes the latest trial, drops the clauses entered since its opening, and makes its slip blank.
-    #[tactic(auto, unfolding(crate::specs::Views::machine, crate::specs::Views::machine_in, crate::specs::Views::slip_state, crate::specs::Views::state_of))]
+    #[tactic(auto, unfolding(crate::specs::Views::machine, crate::specs::Views::machine_in, crate::specs::Views::slip_state))]
     pub fn close(&mut self, slip: &mut Slip) -> Result<(), Decline>
         ensures { Closes (machine self.old) (slip_state slip.old) (machine self.new) (slip_state slip.new) result }
     {
@@ -83,6 +83,7 @@ impl StationFile {
     }
 
     // Keeps the first clauses, at most so many, and frees the numbers and the literals of the others.
+    #[tactic(auto, using(crate::proofs::Kept::cut_machine, crate::proofs::Kept::cut_past), unfolding(crate::specs::Views::machine))]
     fn cut(&mut self, kept: u16)
         ensures { machine self.new ≡ cut_to kept (machine self.old) }
     {

@@ -1,30 +1,13 @@
-use Rattle.std.proofs.Common.{sym, refl, arith}
-use Rattle.std.proofs.lemmas.List.{take_all}
-use Rattle.model.proofs.Calls.{machine_path}
-use Rattle.station.specs.Views.{machine_in, machine}
-use Rattle.station.proofs.Files.{count_is}
-use Rattle.station.proofs.Slips.{start_fits, cut_sound, cut_standing}
+use Rattle.std.proofs.Common.{arith}
+use Rattle.station.proofs.Kept.{start_fits, cut_sound}
 use Rattle.station.proofs.StationFile.cut.Goals as goal
 
 pub overflow_cast-literals : goal.overflow_cast-literals
 overflow_cast-literals c =
     let f = c.args.self.now in
-    let b = start_fits f c.args.kept c.if-kept-self.true in
-    record { fits = omega (arith, b, c.start_of-literals.ensures, f.sound.literals) }
+    record { fits = omega (arith, start_fits f c.args.kept c.if-kept-self.true, c.start_of-literals.ensures, f.sound.literals) }
 
 pub invariant_of-self : goal.invariant_of-self
 invariant_of-self c =
     let f = c.args.self.now in
     record { few_variables = f.few_variables; sound = cut_sound f c.args.kept c.if-kept-self.true c.start_of-literals.result c.start_of-literals.ensures }
-
-pub returns-then-kept-self : goal.returns-then-kept-self
-unfolding machine machine_in
-returns-then-kept-self c =
-    let f = c.args.self.now in
-    machine_path _ _ refl refl (cut_standing f c.args.kept c.if-kept-self.true c.start_of-literals.result) refl
-
-pub returns-else-kept-self : goal.returns-else-kept-self
-unfolding machine machine_in
-returns-else-kept-self c =
-    let f = c.args.self.now in
-    machine_path _ _ refl refl (sym (take_all c.args.kept (machine f).clauses (omega (arith, count_is f, c.if-kept-self.false)))) refl

@@ -1,25 +1,14 @@
--- What a slip's state is, and what cutting a file back leaves.
-use Rattle.std.proofs.Common.{◌≡◌, ℕ, ◌<◌, ◌≤◌, take, Some, None, sym, ap, ◌∙◌, arith}
-use Rattle.std.proofs.lemmas.List.{length-take-le, take-take}
-use Rattle.model.specs.Machine.{blank, filled, names}
+-- What cutting a file back leaves.
+use Rattle.std.proofs.Common.{◌≡◌, ℕ, ◌<◌, ◌≤◌, take, sym, ap, ◌∙◌, arith}
+use Rattle.std.proofs.lemmas.List.{length-take-le, take-take, take_all}
+use Rattle.model.specs.Machine.{names}
 use Rattle.model.proofs.Merging.{every_first}
-use Rattle.station.specs.declared.Held.{Held}
 use Rattle.station.specs.declared.StationFile.{StationFile}
-use Rattle.station.specs.declared.trials.Slip.{Slip}
 use Rattle.station.specs.Cuts.{parts, last_of, start_of}
 use Rattle.station.specs.Tables.{Sound}
-use Rattle.station.specs.Views.{standing, state_of, slip_state}
+use Rattle.station.specs.Views.{standing, machine_in, machine, cut_to}
 use Rattle.station.proofs.Cuts.{parts_take, rises_take, last_take, start_low}
-use Rattle.station.proofs.Files.{ends_of}
-
-module _ (s : Slip) where
-  pub slip_blank : s.held ≡ None → slip_state s ≡ blank
-  unfolding slip_state state_of
-  slip_blank e = rw e
-
-  pub slip_filled : (h : Held) → s.held ≡ Some h → slip_state s ≡ filled h.file h.depth
-  unfolding slip_state state_of
-  slip_filled h e = rw e
+use Rattle.station.proofs.Files.{ends_of, count_is}
 
 -- the first clauses only
 module _ (f : StationFile) (kept : ℕ) (low : kept < f.counts.clauses) where
@@ -43,6 +32,13 @@ module _ (f : StationFile) (kept : ℕ) (low : kept < f.counts.clauses) where
         named = rw (sym (take-take literals f.counts.literals f.tables.lits b)) (every_first (names f.variables) literals (take f.counts.literals f.tables.lits) f.sound.named);
       }
 
-  pub cut_standing : (literals : ℕ) → standing f.tables (record { clauses = kept; literals = literals }) ≡ take kept (standing f.tables f.counts)
-  unfolding standing
-  cut_standing literals = ap (parts f.tables.lits 0) fewer ∙ sym (parts_take kept f.tables.lits 0 (ends_of f))
+  pub cut_machine : (literals : ℕ) → machine_in f.variables f.number f.tables (record { clauses = kept; literals = literals }) f.marks.items ≡ cut_to kept (machine f)
+  unfolding machine machine_in
+  cut_machine literals =
+      let e : parts f.tables.lits 0 (take kept f.tables.ends) ≡ take kept (standing f.tables f.counts) = ap (parts f.tables.lits 0) fewer ∙ sym (parts_take kept f.tables.lits 0 (ends_of f)) in
+      rw e
+
+-- no fewer clauses
+pub cut_past : (f : StationFile) (kept : ℕ) → f.counts.clauses ≤ kept → cut_to kept (machine f) ≡ machine f
+unfolding machine machine_in
+cut_past f kept l = rw (take_all kept (standing f.tables f.counts) (omega (arith, count_is f, l)))
