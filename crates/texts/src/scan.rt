@@ -30,6 +30,7 @@ fn first_part<'a>(rest: &'a [u8], fresh: bool) -> (&'a [u8], Option<Token<'a>>)
             let word = front(rest, ends_word);
             (word, integer(word).map(|x| Token::Number(word, x)))
         }
+        // No number begins so.
         _ => (front(rest, ends_word), None),
     }
 }
