@@ -53,3 +53,9 @@ at_most_57 b h = leb-true b 57 (and_parts (leb 48 b) (leb b 57) h).1
 pub no_first : (w : List ℕ) → length w < 1 → get_or w 0 0 ≢ 45
 no_first [] l e = absurd (omega (arith, e))
 no_first (b ∷ w) l e = absurd (omega arith)
+
+-- a word whose first byte is neither a digit nor a minus
+pub no_integer : (w : List ℕ) → 0 < length w → digit (get_or w 0 0) ≡ false → get_or w 0 0 ≢ 45 → integer w ≡ None
+unfolding integer digits
+no_integer [] l d m = absurd (omega arith)
+no_integer (b ∷ w) l d m = rw (ne_eqb b 45 m) (ap (λ (x : Option ℕ). plain x) (sym (bad_digit (b ∷ w) (and_left (digit b) (digits w) d))))

@@ -1,12 +1,13 @@
 -- What is left of a text, token by token.
-use Rattle.std.proofs.Common.{◌≡◌, ℕ, suc, ◌+◌, ◌-◌, ◌<◌, Bool, true, false, not, cond, ◌||◌, eqb, ◌≢◌, List, [], ◌∷◌, ◌++◌, length, get_or, take, drop, ℤ, Some, None, Option, MatchOption, IsSomeAnd, Bor, sym, refl, ap, ◌∙◌, subst, ⊎_elim, append-nil, add-zero, arith}
+use Rattle.std.proofs.Common.{◌≡◌, ℕ, suc, ◌+◌, ◌-◌, ◌<◌, Bool, true, false, not, cond, ◌||◌, eqb, ◌≢◌, ◌⊎◌, List, [], ◌∷◌, ◌++◌, length, get_or, take, drop, ℤ, Some, None, Option, MatchOption, IsSomeAnd, Bor, sym, refl, ap, ◌∙◌, subst, ⊎_elim, append-nil, add-zero, arith}
 use Rattle.std.proofs.lemmas.Bool.{eqb-true, ne_eqb, or_cases, or_parts, not-false, not-true}
 use Rattle.std.proofs.lemmas.List.{take_rest, drop-drop, length-drop, length-append, get_or-drop, get_or_append_left}
 use Rattle.texts.specs.declared.Token.{Token as Cut}
 use Rattle.texts.specs.declared.Token.TheVariants.{Number, Comment, Problem, LineEnd}
-use Rattle.model.specs.Numbers.{integer}
+use Rattle.model.specs.Numbers.{digit, integer}
 use Rattle.model.specs.Words.{Piece, Placed, line_end, spelt, split, grow, words, word_tokens, ends_line, ends_word, blank, line_tokens, all_tokens, lines, tokens}
 use Rattle.texts.specs.Scan.{Clear, Stops, front, after_line, rest_pieces, rest_tokens, line_begins, bytes_of, kind_of, part_token, FirstPart}
+use Rattle.texts.proofs.Digits.{at_most_57, no_integer}
 use Rattle.texts.proofs.Pieces.{split_piece, split_last, clear_at, Fronted, fronted, front_some, front_first, line_stops, beyond, split_front, front-++, beyond-++, words_none, words_gap, words_more}
 
 -- the end of a line, as a token
@@ -203,8 +204,19 @@ word_part f bs w o l n k e t =
       gives = λ at. ap (rest_tokens f at) h.parts ∙ (rest_any_word f at w (drop (length w) bs) s (λ q. rw (front_first ends_word bs w h s) (k q)) h.clear h.stops ∙ (ap (λ y. y ∷ rest_tokens false (at + length w) (drop (length w) bs)) (sym (t at)) ∙ ap (λ y. part_token at w o ∷ rest_tokens y (at + length w) (drop (length w) bs)) (sym last)));
     }
 
-pub no_word_end : (b : ℕ) → b ≢ 10 → blank b ≡ false → ends_word b ≡ false
-no_word_end b h e = rw (ne_eqb b 10 h, e)
+pub plain_part : (f : Bool) (bs w : List ℕ) → 0 < length bs → ends_word (get_or bs 0 0) ≡ false → (f ≡ true → (get_or bs 0 0 ≢ 99) × (get_or bs 0 0 ≢ 112)) × (digit (get_or bs 0 0) ≡ false) × (get_or bs 0 0 ≢ 45) → w ≡ front ends_word bs → FirstPart f bs w None
+plain_part f bs w l n k e =
+    let h = fronted ends_word bs w e in
+    let s = front_some ends_word bs w h l n in
+    let same = front_first ends_word bs w h s in
+    word_part f bs w None l n k.0 e (λ at. ap (λ i. ((at, w), spelt i)) (sym (no_integer w s (rw same k.1) (rw same k.2))))
+
+pub no_word_end : (b : ℕ) → ends_line b ≡ false → blank b ≡ false → ends_word b ≡ false
+no_word_end b h e = rw (h, e)
+
+-- neither 99 nor 112
+pub number_first : (b : ℕ) → (digit b ≡ true) ⊎ (b ≡ 45) → (b ≢ 99) × (b ≢ 112)
+number_first b h = ⊎_elim (λ d. let s = at_most_57 b d in (λ e. omega (arith, s, e), λ e. omega (arith, s, e))) (λ m. (λ e. omega (arith, m, e), λ e. omega (arith, m, e))) h
 
 pub word_token : (at : ℕ) (w : Bor (List ℕ)) (i : Option ℤ) (o : Option Cut) (R : ℤ → Cut → Type 0) → MatchOption i (o ≡ None) (λ x. IsSomeAnd o (R x)) → ((x : ℤ) (t : Cut) → R x t → t ≡ Number w x) → part_token at w.now o ≡ ((at, w.now), spelt i)
 word_token at w None o R h k = ap (part_token at w.now) h

@@ -1,5 +1,5 @@
 -- What is left of a text to a reader, and what its calls answer.
-use Rattle.std.specs.Prelude.{◌≡◌, ℕ, ◌+◌, ◌-◌, ◌<◌, Bool, true, false, cond, ◌||◌, ◌==◌, List, [], ◌∷◌, ◌++◌, length, drop, Some, None, Ok, Err, Option, Result, MatchOption, slice_index}
+use Rattle.std.specs.Prelude.{◌≡◌, ℕ, ◌+◌, ◌-◌, ◌<◌, Bool, true, false, cond, ◌||◌, ◌==◌, ◌≢◌, ◌⊎◌, List, [], ◌∷◌, ◌++◌, length, drop, Some, None, Ok, Err, Option, Result, MatchOption, slice_index}
 use Rattle.std.specs.Borrow.{Bor}
 use Rattle.std.specs.Fn.{Mut}
 use Rattle.std.specs.Iterator.{ActsAsAt}
@@ -7,7 +7,10 @@ use Rattle.texts.specs.declared.Reader.{Reader}
 use Rattle.texts.specs.declared.Placed.{Placed as Read}
 use Rattle.texts.specs.declared.Token.{Token as Cut}
 use Rattle.texts.specs.declared.Token.TheVariants.{Number, Comment, Problem, LineEnd}
+use Rattle.texts.specs.declared.LineKind.{LineKind}
+use Rattle.texts.specs.declared.LineKind.TheVariants.{Comment as CommentLine, Problem as ProblemLine, Number as NumberLine, Other as OtherLine}
 use Rattle.model.specs.declared.WordFault.{WordFault}
+use Rattle.model.specs.Numbers.{digit}
 use Rattle.model.specs.Words.{Piece, Placed, Token, number, no_number, comment, problem, line_end, words, split, ends_line, word_tokens, line_tokens, all_tokens}
 
 -- below a million, as six digits write
@@ -35,6 +38,13 @@ front cuts (b ∷ bs) = cond (cuts b) [] (b ∷ front cuts bs)
 -- the bytes before the first at which f answers true, whatever test it computes
 abbrev pub Fronts : {F : Type 0} → Mut F (Bor ℕ × Unit {0}) Bool → F → List ℕ → List ℕ → Type 0
 Fronts g f bs part = (cuts : ℕ → Bool) → ActsAsAt g f cuts → part ≡ front cuts bs
+
+-- what the first byte of a line opens
+abbrev pub Opens : ℕ → LineKind → Type 0
+Opens b CommentLine = b ≡ 99
+Opens b ProblemLine = b ≡ 112
+Opens b NumberLine = (digit b ≡ true) ⊎ (b ≡ 45)
+Opens b OtherLine = (b ≢ 99) × (b ≢ 112) × (digit b ≡ false) × (b ≢ 45)
 
 -- tokens to come
 

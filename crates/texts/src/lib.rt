@@ -36,6 +36,15 @@ pub struct Placed<'a> {
     pub token: Token<'a>,
 }
 
+// What the first byte of a line opens.
+#[derive(Clone, Copy)]
+pub enum LineKind {
+    Comment,
+    Problem,
+    Number,
+    Other,
+}
+
 // A number after the problem line, and how many bytes stand before it.
 #[derive(Clone, Copy, PartialEq, Eq, Debug)]
 pub struct Numeral {

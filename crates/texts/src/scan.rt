@@ -4,8 +4,8 @@ ghost use Rattle.model.specs.Words.{blank, tokens};
 ghost use Rattle.texts.specs.Scan.{text_of, rest_of, FirstPart, Gives};
 
 use super::numbers::integer;
-use super::spans::{begins_line, ends_line, ends_word, front, is_blank};
-use super::{Placed, Reader, Token};
+use super::spans::{begins_line, ends_line, ends_word, front, is_blank, kind_of_line};
+use super::{LineKind, Placed, Reader, Token};
 use model::WordFault;
 
 // The part of the text that comes first where no blank does, and its token, unless it is a word that is no number. `fresh` where a line begins.
@@ -14,20 +14,24 @@ fn first_part<'a>(rest: &'a [u8], fresh: bool) -> (&'a [u8], Option<Token<'a>>)
     requires starts { blank (slice_index rest.now 0) ≡ false }
     ensures { FirstPart fresh rest.now result.0.now result.1 }
 {
-    match rest[0] {
-        b'\n' => (&rest[..1], Some(Token::LineEnd(&rest[..1]))),
-        b'c' if fresh => {
+    if ends_line(&rest[0]) {
+        return (&rest[..1], Some(Token::LineEnd(&rest[..1])));
+    }
+    match kind_of_line(rest[0]) {
+        LineKind::Comment if fresh => {
             let line = front(rest, ends_line);
             (line, Some(Token::Comment(line)))
         }
-        b'p' if fresh => {
+        LineKind::Problem if fresh => {
             let line = front(rest, ends_line);
             (line, Some(Token::Problem(line)))
         }
-        _ => {
+        LineKind::Number => {
             let word = front(rest, ends_word);
             (word, integer(word).map(|x| Token::Number(word, x)))
         }
+        // No number begins so.
+        _ => (front(rest, ends_word), None),
     }
 }
 

@@ -1,7 +1,9 @@
 // Where words and lines end.
 ghost use Rattle.std.specs.Prelude.{◌≡◌, ◌≤◌, length};
 ghost use Rattle.model.specs.Words.{blank, ends_line as EndsLine, ends_word as EndsWord};
-ghost use Rattle.texts.specs.Scan.{Fronts, line_begins};
+ghost use Rattle.texts.specs.Scan.{Opens, Fronts, line_begins};
+
+use super::LineKind;
 
 pub(crate) fn is_blank(b: &u8) -> bool
     ensures { result ≡ blank b.now }
@@ -19,6 +21,18 @@ pub(crate) fn ends_word(b: &u8) -> bool
     ensures { result ≡ EndsWord b.now }
 {
     ends_line(b) || is_blank(b)
+}
+
+// What a line is, by its first byte.
+pub(crate) fn kind_of_line(first: u8) -> LineKind
+    ensures { Opens first result }
+{
+    match first as char {
+        'c' => LineKind::Comment,
+        'p' => LineKind::Problem,
+        '0'..='9' | '-' => LineKind::Number,
+        _ => LineKind::Other,
+    }
 }
 
 // Whether a line begins at a place.

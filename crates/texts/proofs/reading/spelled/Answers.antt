@@ -1,8 +1,8 @@
 use Rattle.std.proofs.Common.{sym, ap, ◌∙◌, w32, SFits, rules}
 use Rattle.std.proofs.lemmas.Int.{to_z-of_z}
 use Rattle.std.proofs.lemmas.Result.{err_from_is_err_and}
-use Rattle.model.specs.Reading.{step, step_after, took}
-use Rattle.texts.proofs.StepsTaken.{after, at_token, word_after}
+use Rattle.model.specs.Reading.{step_after, took}
+use Rattle.texts.proofs.StepsTaken.{after_token, word_after}
 use Rattle.texts.proofs.reading.spelled.Goals as goal
 
 pub returns-in_err-place : goal.returns-in_err-place
@@ -15,16 +15,16 @@ unfolding step_after
 returns-in-Number c = λ s a t m.
     let v = c.in-Number.value in
     let fit : SFits w32 v = search rules in
-    ap (step s) (at_token c.args.p _ _ t c.in_ok-place.was c.in-Number.is m) ∙ (after s a _ _ ∙ ap (took s c.in_ok-place.field-0.place) (sym (to_z-of_z w32 v fit)))
+    after_token s a c.args.p _ _ t c.in_ok-place.was c.in-Number.is m ∙ ap (took s c.in_ok-place.field-0.place) (sym (to_z-of_z w32 v fit))
 
 pub returns-in-LineEnd : goal.returns-in-LineEnd
 unfolding step_after
-returns-in-LineEnd c = λ s a t m. ap (step s) (at_token c.args.p _ _ t c.in_ok-place.was c.in-LineEnd.is m) ∙ after s a _ _
+returns-in-LineEnd c = λ s a t m. after_token s a c.args.p _ _ t c.in_ok-place.was c.in-LineEnd.is m
 
 pub returns-in-Comment : goal.returns-in-Comment
 unfolding step_after
-returns-in-Comment c = λ s a t m. ap (step s) (at_token c.args.p _ _ t c.in_ok-place.was c.in-Comment.is m) ∙ after s a _ _
+returns-in-Comment c = λ s a t m. after_token s a c.args.p _ _ t c.in_ok-place.was c.in-Comment.is m
 
 pub returns-in-Problem : goal.returns-in-Problem
 unfolding step_after
-returns-in-Problem c = λ s a t m. ap (step s) (at_token c.args.p _ _ t c.in_ok-place.was c.in-Problem.is m) ∙ after s a _ _
+returns-in-Problem c = λ s a t m. after_token s a c.args.p _ _ t c.in_ok-place.was c.in-Problem.is m
