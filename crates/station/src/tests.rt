@@ -41,6 +41,25 @@ fn equal_literals_merge(rt: HostRuntime) -> Result<(), Fail> {
 }
 
 #[test]
+fn clauses_in_their_order(rt: HostRuntime) -> Result<(), Fail> {
+    let mut file = started(2);
+    assert!(rt; file.iter().next().is_none());
+    assert_eq!(rt; file.enter(&[1, -2]), Ok(1));
+    assert_eq!(rt; file.enter(&[]), Ok(2));
+    assert_eq!(rt; file.enter(&[2]), Ok(3));
+    let mut clauses = file.iter();
+    let first = clauses.next().ok_or("no clause 1")?;
+    assert!(rt; first.len() == 2);
+    assert_eq!(rt; first[1], -2);
+    assert!(rt; clauses.next().ok_or("no clause 2")?.is_empty());
+    let third = clauses.next().ok_or("no clause 3")?;
+    assert!(rt; third.len() == 1);
+    assert_eq!(rt; third[0], 2);
+    assert!(rt; clauses.next().is_none());
+    Ok(())
+}
+
+#[test]
 fn sizes_at_the_edge(rt: HostRuntime) {
     let mut file = StationFile::new();
     assert_eq!(rt; file.enter(&[1]), Err(Decline::NotStarted));
