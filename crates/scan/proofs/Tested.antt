@@ -12,9 +12,6 @@ module _ (σ : Setting) (C : Clause) (t : ℤ) where
   pub true_more : SomeTrue σ C → SomeTrue σ (C ++ t ∷ [])
   true_more (u, h, e) = (u, in_left u C (t ∷ []) h, e)
 
-  pub true_last : value σ t ≡ 1 → SomeTrue σ (C ++ t ∷ [])
-  true_last e = (t, in_last t C, e)
-
   pub false_more : value σ t ≡ 0 → AllFalse σ C → AllFalse σ (C ++ t ∷ [])
   false_more e h u k = elim (in_pushed t u C k) [ inl m ↦ h u m | inr q ↦ ap (value σ) q ∙ e ]
 

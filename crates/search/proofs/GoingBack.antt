@@ -52,9 +52,6 @@ module _ (run : Run) (m : Machine) (rec : RecordMeaning) (p : Position) (f : Fra
   pub marks_low : length p.marks ≤ n
   marks_low = let a = held_marks s.entries p.marks p.frames s.held in let b = way_vacant F order n s.way in omega arith
 
-  pub frames_low : length p.frames ≤ length p.marks
-  frames_low = let a = held_marks s.entries p.marks p.frames s.held in let b = held_frames s.entries p.marks p.frames s.held in omega arith
-
   -- forced by a clause
 
   module _ (k : ℕ) (why : x.why ≡ Forcing k) where

@@ -42,26 +42,20 @@ row_false : {A : Type 0} (b : Bool) (x : A) (rest : Option A) → cond b (Some x
 row_false true x rest e = absurd (let z : ◌≡◌ {A = ℕ} 0 1 = cc in omega arith)
 row_false false x rest e = (refl, e)
 
-pub record Allowed (m : Machine) (o : OrderMeaning) (sheet trail frames : ℕ) : Type 0 where
+pub record Allowed (m : Machine) (o : OrderMeaning) (sheet : ℕ) : Type 0 where
   pub size_is : o.size ≡ m.variables
   pub sheet_long : m.variables ≤ sheet
-  pub trail_long : m.variables ≤ trail
-  pub frames_long : m.variables ≤ frames
 
-pub allowed : (m : Machine) (o : OrderMeaning) (rec : RecordMeaning) (sheet trail frames : ℕ) → settle_refusal m o rec sheet (trail ∷ frames ∷ []) ≡ None → Allowed m o sheet trail frames
+pub allowed : (m : Machine) (o : OrderMeaning) (rec : RecordMeaning) (sheet trail frames : ℕ) → settle_refusal m o rec sheet (trail ∷ frames ∷ []) ≡ None → Allowed m o sheet
 allowed m o rec sheet trail frames e =
     let a = row_false _ _ _ e in
     let b = row_false _ _ _ a.1 in
     let c = row_false _ _ _ b.1 in
     let every_long = not-false _ c.0 in
     let x = both (leb m.variables sheet) _ every_long in
-    let y = both (leb m.variables trail) _ x.1 in
-    let z = both (leb m.variables frames) _ y.1 in
     record {
       size_is = eqb-true o.size m.variables (not-false (eqb o.size m.variables) b.0);
       sheet_long = leb-true m.variables sheet x.0;
-      trail_long = leb-true m.variables trail y.0;
-      frames_long = leb-true m.variables frames z.0;
     }
 
 module _ (m : Machine) (o : OrderMeaning) (rec rec' : RecordMeaning) (sheet : List ℕ) where

@@ -1,4 +1,4 @@
-// Single moves: a literal is set or unset, a failing clause goes past one, a choice is turned.
+// Single moves: a literal is set, a failing clause goes past one, a choice is turned.
 ghost use Rattle.std.specs.Prelude.{◌≡◌, ℕ, ◌+◌, ◌<◌, ◌≤◌, [], ◌∷◌, ◌++◌, length, Some};
 ghost use Rattle.model.specs.declared.Reference.TheVariants.{R};
 ghost use Rattle.model.specs.Clauses.{Clause, opposite};

@@ -21,24 +21,24 @@ returns-in_err-unwind-clause-advanced g c =
     let f = c.requires.first in
     let q = err_from_is_err_and c.from_residual.result c.from_residual.ensures.1 in
     λ run s. rw (q.1, q.2) (c.in_err-unwind.ensures.unwound run
-          (going_stuck run _ _ _ s c.args.k c.frame_of-failure.result f.0 f.1 c.frame_of-failure.ensures.by (c.frame_of-failure.ensures.holds f.0 (first_numbered f.1))))
+    (going_stuck run _ _ _ s c.args.k c.frame_of-failure.result f.0 f.1 c.frame_of-failure.ensures.by (c.frame_of-failure.ensures.holds f.0 (first_numbered f.1))))
 
 pub returns-in-Turned-clause-advanced : goal.returns-in-Turned-clause-advanced
 returns-in-Turned-clause-advanced g c =
     let f = c.requires.first in
     let m = machine_of c.args.self.now in
     λ run s.
-          let u = c.in_ok-unwind.ensures.unwound run
-          (going_stuck run _ _ _ s c.args.k c.frame_of-failure.result f.0 f.1 c.frame_of-failure.ensures.by (c.frame_of-failure.ensures.holds f.0 (first_numbered f.1))) in
-          let k = subst (λ (t : Turn). Unwound run m (position c.args.self.now) (g.R.Record.meaning c.unwind.new.record) (position c.unwind.new.self) c.unwind.new.failure (Ok t)) c.in-Turned.is u in
-          (k.0, under_weight m.variables _ (position c.args.self.now).marks k.1)
+    let u = c.in_ok-unwind.ensures.unwound run
+    (going_stuck run _ _ _ s c.args.k c.frame_of-failure.result f.0 f.1 c.frame_of-failure.ensures.by (c.frame_of-failure.ensures.holds f.0 (first_numbered f.1))) in
+    let k = subst (λ (t : Turn). Unwound run m (position c.args.self.now) (g.R.Record.meaning c.unwind.new.record) (position c.unwind.new.self) c.unwind.new.failure (Ok t)) c.in-Turned.is u in
+    (k.0, under_weight m.variables _ (position c.args.self.now).marks k.1)
 
 pub returns-in-Failing-clause-advanced : goal.returns-in-Failing-clause-advanced
 returns-in-Failing-clause-advanced g c =
     let f = c.requires.first in
     let m = machine_of c.args.self.now in
     λ run s.
-          let u = c.in_ok-unwind.ensures.unwound run
-          (going_stuck run _ _ _ s c.args.k c.frame_of-failure.result f.0 f.1 c.frame_of-failure.ensures.by (c.frame_of-failure.ensures.holds f.0 (first_numbered f.1))) in
-          let k = subst (λ (t : Turn). Unwound run m (position c.args.self.now) (g.R.Record.meaning c.unwind.new.record) (position c.unwind.new.self) c.unwind.new.failure (Ok t)) c.in-Failing.is u in
-          stuck_root run m _ (position c.unwind.new.self) c.unwind.new.failure k.0 k.1
+    let u = c.in_ok-unwind.ensures.unwound run
+    (going_stuck run _ _ _ s c.args.k c.frame_of-failure.result f.0 f.1 c.frame_of-failure.ensures.by (c.frame_of-failure.ensures.holds f.0 (first_numbered f.1))) in
+    let k = subst (λ (t : Turn). Unwound run m (position c.args.self.now) (g.R.Record.meaning c.unwind.new.record) (position c.unwind.new.self) c.unwind.new.failure (Ok t)) c.in-Failing.is u in
+    stuck_root run m _ (position c.unwind.new.self) c.unwind.new.failure k.0 k.1

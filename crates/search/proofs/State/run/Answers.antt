@@ -20,4 +20,4 @@ pub returns-in-Some-clause-ran : goal.returns-in-Some-clause-ran
 returns-in-Some-clause-ran g c =
     let v = c.loop-answer.invariant in
     λ run o s. advanced_there (machine_of c.args.self.now) (machine_of c.loop-answer.self) v.0 run _ (g.R.Record.meaning c.advance.new.record) (position c.loop-answer.self) (position c.advance.new.self)
-          (Ok c.in_ok-answer.field-0) (Ok (Some c.in-Some.answer)) (ap Ok c.in-Some.is) (c.in_ok-answer.ensures.advanced run o) (v.2 run o s)
+    (Ok c.in_ok-answer.field-0) (Ok (Some c.in-Some.answer)) (ap Ok c.in-Some.is) (c.in_ok-answer.ensures.advanced run o) (v.2 run o s)

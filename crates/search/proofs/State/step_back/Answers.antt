@@ -37,14 +37,14 @@ pub returns-in_err-past-in-Clause-clause-stepped : goal.returns-in_err-past-in-C
 returns-in_err-past-in-Clause-clause-stepped g c =
     let q = err_from_is_err_and c.from_residual.result c.from_residual.ensures.1 in
     λ run s. rw (q.1, q.2) (stepped_clause run _ _ _ _ s _ c.pop-mark.result c.pop-mark.ensures.items c.clear.new.self c.clear.ensures (position c.past.new.self) c.past.new.failure _ c.frame_of-setter.result
-          c.in-Clause.k c.in-Clause.is c.frame_of-setter.ensures.by c.frame_of-setter.ensures.holds
-          c.past.ensures.position (Err c.in_err-past-in-Clause.field-0.0) c.in_err-past-in-Clause.ensures.past)
+    c.in-Clause.k c.in-Clause.is c.frame_of-setter.ensures.by c.frame_of-setter.ensures.holds
+    c.past.ensures.position (Err c.in_err-past-in-Clause.field-0.0) c.in_err-past-in-Clause.ensures.past)
 
 pub returns-in_ok-past-in-Clause-clause-stepped : goal.returns-in_ok-past-in-Clause-clause-stepped
 returns-in_ok-past-in-Clause-clause-stepped g c =
     λ run s. stepped_clause run _ _ _ _ s _ c.pop-mark.result c.pop-mark.ensures.items c.clear.new.self c.clear.ensures (position c.past.new.self) c.past.new.failure _ c.frame_of-setter.result
-          c.in-Clause.k c.in-Clause.is c.frame_of-setter.ensures.by c.frame_of-setter.ensures.holds
-          c.past.ensures.position (Ok c.in_ok-past-in-Clause.field-0) c.in_ok-past-in-Clause.ensures.past
+    c.in-Clause.k c.in-Clause.is c.frame_of-setter.ensures.by c.frame_of-setter.ensures.holds
+    c.past.ensures.position (Ok c.in_ok-past-in-Clause.field-0) c.in_ok-past-in-Clause.ensures.past
 
 pub returns-in-On-clause-stepped : goal.returns-in-On-clause-stepped
 returns-in-On-clause-stepped g c =
@@ -54,11 +54,11 @@ pub returns-in_err-past-in-Off-clause-stepped : goal.returns-in_err-past-in-Off-
 returns-in_err-past-in-Off-clause-stepped g c =
     let q = err_from_is_err_and c.from_residual-in_err-past-in-Off.result c.from_residual-in_err-past-in-Off.ensures.1 in
     λ run s. rw (q.1, q.2) (stepped_off run _ _ _ _ s _ c.pop-mark.result c.pop-mark.ensures.items c.clear.new.self c.clear.ensures (position c.past-in-Off.new.self) c.past-in-Off.new.failure _ c.pop-setter.result
-          c.in-Off.is (items c.pop-setter.new.self) c.pop-setter.ensures.items
-          c.past-in-Off.ensures.position (Err c.in_err-past-in-Off.field-0.0) c.in_err-past-in-Off.ensures.past)
+    c.in-Off.is (items c.pop-setter.new.self) c.pop-setter.ensures.items
+    c.past-in-Off.ensures.position (Err c.in_err-past-in-Off.field-0.0) c.in_err-past-in-Off.ensures.past)
 
 pub returns-in_ok-past-in-Off-clause-stepped : goal.returns-in_ok-past-in-Off-clause-stepped
 returns-in_ok-past-in-Off-clause-stepped g c =
     λ run s. stepped_off run _ _ _ _ s _ c.pop-mark.result c.pop-mark.ensures.items c.clear.new.self c.clear.ensures (position c.past-in-Off.new.self) c.past-in-Off.new.failure _ c.pop-setter.result
-          c.in-Off.is (items c.pop-setter.new.self) c.pop-setter.ensures.items
-          c.past-in-Off.ensures.position (Ok c.in_ok-past-in-Off.field-0) c.in_ok-past-in-Off.ensures.past
+    c.in-Off.is (items c.pop-setter.new.self) c.pop-setter.ensures.items
+    c.past-in-Off.ensures.position (Ok c.in_ok-past-in-Off.field-0) c.in_ok-past-in-Off.ensures.past

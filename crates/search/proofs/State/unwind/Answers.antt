@@ -9,10 +9,10 @@ pub returns-in-Turned-clause-unwound : goal.returns-in-Turned-clause-unwound
 returns-in-Turned-clause-unwound g c =
     let v = c.loop-self.invariant in
     λ run s.
-          let k = stepped_there (machine_of c.args.self.now) (machine_of c.loop-self.self) v.0 run _ (g.R.Record.meaning c.step_back.new.record) (position c.loop-self.self) (position c.step_back.new.self)
-          c.loop-self.failure c.step_back.new.failure
-          (Ok c.in_ok-step_back.field-0) (Ok Turned) (ap Ok c.in-Turned.is) (c.in_ok-step_back.ensures.stepped run) (v.2 run s) in
-          (k.0, omega (arith, k.1, v.3))
+    let k = stepped_there (machine_of c.args.self.now) (machine_of c.loop-self.self) v.0 run _ (g.R.Record.meaning c.step_back.new.record) (position c.loop-self.self) (position c.step_back.new.self)
+    c.loop-self.failure c.step_back.new.failure
+    (Ok c.in_ok-step_back.field-0) (Ok Turned) (ap Ok c.in-Turned.is) (c.in_ok-step_back.ensures.stepped run) (v.2 run s) in
+    (k.0, omega (arith, k.1, v.3))
 
 -- the search still fails, one setting further back
 still : (g : Over) (c : goal.In_default g) (run : Run) → Stuck run (machine_of c.args.self.now) (g.R.Record.meaning c.args.record.now) (position c.args.self.now) c.args.failure.now
