@@ -6,3 +6,4 @@ pub mod Pushed
 pub mod Fronts
 pub mod Going
 pub mod Kept
+pub mod Tried
