@@ -1,4 +1,4 @@
-ghost use Rattle.std.specs.Prelude.{◌≡◌, ℕ, ◌≤◌, length, slice_set};
+ghost use Rattle.std.specs.Prelude.{◌≡◌, ℕ, ◌≤◌, min, length, slice_set};
 ghost use Rattle.model.specs.Clauses.{variable};
 ghost use Rattle.model.specs.Search.{entry, put_entry, value, make_true};
 ghost use Rattle.model.specs.Arguments.{unset};
@@ -11,8 +11,8 @@ use std::marker::Model;
 // What each of n variables is set to: 0 for off, 1 for on and 2 for unset, in bytes since an order is asked with bytes.
 #[derive(Drop)]
 pub struct Settings {
-    bytes: [u8; 255],
-    n: u8,
+    bytes: [u8; 256],
+    n: u16,
 }
 
 impl Model for Settings {
@@ -23,22 +23,25 @@ impl Model for Settings {
 
     ghost view = { λ s. take s.n s.bytes };
 
-    ghost invariant = { λ s. (s.n ≤ 255) × EachSet s.bytes };
+    ghost invariant = { λ s. (s.n ≤ 256) × EachSet s.bytes };
 }
 
 impl Settings {
-    // n variables, each of them unset.
-    pub fn new(n: u8) -> Settings
-        ensures { result ≡ unset n }
+    // n variables, each of them unset; a number above 256 is taken as 256.
+    pub fn new(n: u16) -> Settings
+        ensures { result ≡ unset (min n 256) }
     {
-        Settings { bytes: [2; 255], n }
+        Settings {
+            bytes: [2; 256],
+            n: n.min(256),
+        }
     }
 
     // What a variable is set to: 0 and those beyond the last are off.
     fn entry(&self, variable: u32) -> u8
         ensures entry { result ≡ entry self.now variable }
         ensures low { result ≤ 2 }
-        ensures few { length self.now ≤ 255 }
+        ensures few { length self.now ≤ 256 }
     {
         if variable > u32::from(self.n) || variable == 0 {
             return 0;
@@ -49,7 +52,7 @@ impl Settings {
     // Whether a literal is true, if its variable is set.
     pub fn look(&self, literal: i32) -> Option<bool>
         ensures looks { Looks (value self.now literal) result }
-        ensures few { length self.now ≤ 255 }
+        ensures few { length self.now ≤ 256 }
     {
         let off = literal < 0;
         match self.entry(literal.unsigned_abs()) {

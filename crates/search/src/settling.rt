@@ -62,7 +62,7 @@ impl<'m> State<'m> {
         ensures file { machine_of result ≡ machine file.now }
         ensures position { position result ≡ record { settings = unset (machine file.now).variables; marks = []; frames = []; made = 0 } }
     {
-        let settings = Settings::new(file.variables());
+        let settings = Settings::new(u16::from(file.variables()));
         let trail = Stack::over(trail);
         let frames = Stack::over(frames);
         State {

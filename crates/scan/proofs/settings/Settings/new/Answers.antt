@@ -1,4 +1,4 @@
-use Rattle.std.proofs.Common.{ℕ, zero, suc, ◌≤◌, get_or, replicate, arith}
+use Rattle.std.proofs.Common.{ℕ, zero, suc, ◌≤◌, get_or, replicate, ap, ◌∙◌, arith}
 use Rattle.std.proofs.lemmas.List.{take-replicate}
 use Rattle.scan.proofs.settings.Settings.new.Goals as goal
 
@@ -8,7 +8,7 @@ twos (suc m) zero = omega arith
 twos (suc m) (suc k) = twos m k
 
 pub invariant_of-result : goal.invariant_of-result
-invariant_of-result c = (omega arith, twos 255)
+invariant_of-result c = (omega arith, twos 256)
 
 pub returns : goal.returns
-returns c = take-replicate c.args.n 255 2 (omega arith)
+returns c = take-replicate c.min.result 256 2 (omega (arith, c.min.ensures)) ∙ ap (λ k. replicate k 2) c.min.ensures
