@@ -31,7 +31,7 @@ impl From<FileFault> for ReadFault {
 }
 
 impl ReadFault {
-    // The number under which docs/declines.md lists the cause: 20 to 23, or the file's own.
+    // The number under which docs/declines.md lists the cause: 20 to 23, or the file's own. By a method, as `Decline::number`.
     pub fn number(&self) -> u8
         ensures { result ≡ fault_number self.now }
     {
