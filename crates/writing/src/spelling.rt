@@ -40,10 +40,7 @@ pub(crate) fn text<S: Sink>(sink: &mut S, file: &StationFile)
     ensures { Puts S.Sink.took sink.old (text_of (machine file.now)) sink.new }
 {
     problem_line(sink, u32::from(file.variables()), file.clauses());
-    for k in 1..=file.clauses() {
-        let Some(literals) = file.show(k) else {
-            return unreachable();
-        };
+    for literals in file.iter() {
         clause(sink, literals);
     }
 }
