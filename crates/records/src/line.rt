@@ -1,4 +1,4 @@
-// A step in a line of 28 bytes. Written and read by functions, and by no `From` between `Step` and `[u8; 28]`: that the bytes are a line would not be said at a call.
+// A step in a line of 28 bytes. Written and read by functions, and by no `From` between `Step` and `[u8; 28]`: a call would not say that the bytes are a line.
 ghost use Rattle.std.specs.Prelude.{◌≡◌, ◌%◌, length};
 ghost use Rattle.records.specs.Line.{digits, number, word, named, line, said};
 
