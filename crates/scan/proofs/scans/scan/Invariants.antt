@@ -1,7 +1,7 @@
-use Rattle.std.proofs.Common.{take}
+use Rattle.station.specs.Left.{clauses_left}
 use Rattle.station.specs.Views.{machine}
-use Rattle.scan.specs.Tests.{Scanned}
+use Rattle.scan.proofs.Scanned.{UpTo}
 use Rattle.scan.proofs.scans.scan.Given as goal
 
-abbrev pub invariant-loop-i : goal.invariant-loop-i
-invariant-loop-i l = Scanned l.settings (take l.i (machine l.file).clauses) l.so_far
+abbrev pub invariant-loop-literals : goal.invariant-loop-literals
+invariant-loop-literals l = UpTo l.settings (machine l.file).clauses l.k (clauses_left l.literals-iterator) l.so_far
