@@ -1,5 +1,5 @@
 -- The scan with one clause more.
-use Rattle.std.proofs.Common.{◌≡◌, ℕ, zero, suc, ◌+◌, ◌<◌, ◌≢◌, List, [], ◌∷◌, ◌++◌, length, get_or, sym, refl, ap, ◌∙◌, subst, append_assoc, append-nil, arith, length-append}
+use Rattle.std.proofs.Common.{◌≡◌, ℕ, zero, suc, ◌+◌, ◌<◌, ◌≤◌, ◌≢◌, List, [], ◌∷◌, ◌++◌, length, get_or, sym, ap, ◌∙◌, subst, append_assoc, append-nil, arith, length-append}
 use Rattle.model.specs.Clauses.{Clause, Each}
 use Rattle.model.specs.Search.{Setting, value, AllFalse, UnitOn, SomeUnit, SomeTrue, First, here, later, NoneOf, Undecided}
 use Rattle.clauses.specs.declared.Literal.{Literal}
@@ -94,23 +94,23 @@ module _ (σ : Setting) where
   pub conflict_more : (F G : List Clause) (k : ℕ) → Scanned σ F (Conflict k) → Scanned σ (F ++ G) (Conflict k)
   conflict_more F G k (D, h) = (D, first_more (AllFalse σ) G h)
 
--- the first k clauses of F are scanned, and these are left
+-- the clauses of F before the one numbered k are scanned, and these are left
 pub record UpTo (σ : Setting) (F : List Clause) (k : ℕ) (left : List Clause) (s : Scan) : Type 0 where
   pub done : List Clause
   pub whole : F ≡ done ++ left
-  pub count : k ≡ length done
+  pub count : k ≡ length done + 1
   pub scanned : Scanned σ done s
 
 module _ (σ : Setting) (F : List Clause) where
-  pub up_to_start : (left : List Clause) → left ≡ F → UpTo σ F 0 left Satisfied
-  up_to_start left e = record { done = []; whole = sym e; count = refl; scanned = tt }
+  pub up_to_start : (k : ℕ) (left : List Clause) → k ≡ 1 → left ≡ F → UpTo σ F k left Satisfied
+  up_to_start k left q e = record { done = []; whole = sym e; count = q; scanned = tt }
 
-  pub up_to_more : (k j : ℕ) (C : Clause) (left rest : List Clause) (s s' : Scan) (r : Test) → UpTo σ F k left s → left ≡ C ∷ rest → j ≡ k + 1 → Tested σ C r → s' ≡ added s j r → UpTo σ F j rest s'
-  up_to_more k j C left rest s s' r u e q t f = record {
+  pub up_to_more : (k j n : ℕ) (C : Clause) (left rest : List Clause) (s s' : Scan) (r : Test) → UpTo σ F k left s → left ≡ C ∷ rest → n ≡ k → j ≡ n + 1 → Tested σ C r → s' ≡ added s n r → UpTo σ F j rest s'
+  up_to_more k j n C left rest s s' r u e p q t f = record {
     done = u.done ++ (C ∷ []);
     whole = u.whole ∙ (ap (λ xs. u.done ++ xs) e ∙ sym (append_assoc u.done (C ∷ []) rest));
     count = omega (arith, length-append u.done (C ∷ []), u.count);
-    scanned = subst (λ (x : Scan). Scanned σ (u.done ++ (C ∷ [])) x) (sym f) (added_scanned σ u.done C j s r (omega (arith, u.count)) t u.scanned);
+    scanned = subst (λ (x : Scan). Scanned σ (u.done ++ (C ∷ [])) x) (sym f) (added_scanned σ u.done C n s r (omega (arith, u.count)) t u.scanned);
   }
 
   pub up_to_end : (k : ℕ) (left : List Clause) (s : Scan) → UpTo σ F k left s → left ≡ [] → Scanned σ F s
@@ -121,5 +121,5 @@ module _ (σ : Setting) (F : List Clause) where
       let h = conflict_more σ u.done left n (subst (λ (x : Scan). Scanned σ u.done x) e u.scanned) in
       subst (λ (x : Scan). Scanned σ F x) (sym e) (subst (λ (G : List Clause). Scanned σ G (Conflict n)) (sym u.whole) h)
 
-  pub up_to_low : (k : ℕ) (C : Clause) (left rest : List Clause) (s : Scan) → UpTo σ F k left s → left ≡ C ∷ rest → k < length F
-  up_to_low k C left rest s u e = omega (arith, u.count, ap length u.whole, length-append u.done left, ap length e)
+  pub up_to_low : (k : ℕ) (left : List Clause) (s : Scan) → UpTo σ F k left s → k ≤ length F + 1
+  up_to_low k left s u = omega (arith, u.count, ap length u.whole, length-append u.done left)

@@ -33,9 +33,7 @@ pub fn scan(file: &StationFile, settings: &Settings) -> Scan
     ensures { Scanned settings.now (machine file.now).clauses result }
 {
     let mut so_far = Scan::Satisfied;
-    let mut k = 0;
-    for literals in file.iter() {
-        k += 1;
+    for (k, literals) in (1u32..).zip(file.iter()) {
         so_far = add(so_far, k, test(literals, settings));
         if let Scan::Conflict(_) = so_far {
             return so_far;
