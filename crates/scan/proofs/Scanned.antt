@@ -1,5 +1,5 @@
 -- The scan with one clause more.
-use Rattle.std.proofs.Common.{◌≡◌, ℕ, zero, suc, ◌+◌, ◌<◌, ◌≢◌, List, [], ◌∷◌, ◌++◌, length, get_or, sym, ap, subst, arith}
+use Rattle.std.proofs.Common.{◌≡◌, ℕ, zero, suc, ◌+◌, ◌<◌, ◌≤◌, ◌≢◌, List, [], ◌∷◌, ◌++◌, length, get_or, sym, ap, ◌∙◌, subst, append_assoc, append-nil, arith, length-append}
 use Rattle.model.specs.Clauses.{Clause, Each}
 use Rattle.model.specs.Search.{Setting, value, AllFalse, UnitOn, SomeUnit, SomeTrue, First, here, later, NoneOf, Undecided}
 use Rattle.clauses.specs.declared.Literal.{Literal}
@@ -93,3 +93,33 @@ module _ (σ : Setting) where
   -- a clause that is false stays the first, whatever follows
   pub conflict_more : (F G : List Clause) (k : ℕ) → Scanned σ F (Conflict k) → Scanned σ (F ++ G) (Conflict k)
   conflict_more F G k (D, h) = (D, first_more (AllFalse σ) G h)
+
+-- the clauses of F before the one numbered k are scanned, and these are left
+pub record UpTo (σ : Setting) (F : List Clause) (k : ℕ) (left : List Clause) (s : Scan) : Type 0 where
+  pub done : List Clause
+  pub whole : F ≡ done ++ left
+  pub count : k ≡ length done + 1
+  pub scanned : Scanned σ done s
+
+module _ (σ : Setting) (F : List Clause) where
+  pub up_to_start : (k : ℕ) (left : List Clause) → k ≡ 1 → left ≡ F → UpTo σ F k left Satisfied
+  up_to_start k left q e = record { done = []; whole = sym e; count = q; scanned = tt }
+
+  pub up_to_more : (k j n : ℕ) (C : Clause) (left rest : List Clause) (s s' : Scan) (r : Test) → UpTo σ F k left s → left ≡ C ∷ rest → n ≡ k → j ≡ n + 1 → Tested σ C r → s' ≡ added s n r → UpTo σ F j rest s'
+  up_to_more k j n C left rest s s' r u e p q t f = record {
+    done = u.done ++ (C ∷ []);
+    whole = u.whole ∙ (ap (λ xs. u.done ++ xs) e ∙ sym (append_assoc u.done (C ∷ []) rest));
+    count = omega (arith, length-append u.done (C ∷ []), u.count);
+    scanned = subst (λ (x : Scan). Scanned σ (u.done ++ (C ∷ [])) x) (sym f) (added_scanned σ u.done C n s r (omega (arith, u.count)) t u.scanned);
+  }
+
+  pub up_to_end : (k : ℕ) (left : List Clause) (s : Scan) → UpTo σ F k left s → left ≡ [] → Scanned σ F s
+  up_to_end k left s u e = subst (λ (G : List Clause). Scanned σ G s) (sym (u.whole ∙ (ap (λ xs. u.done ++ xs) e ∙ append-nil u.done))) u.scanned
+
+  pub up_to_conflict : (k n : ℕ) (left : List Clause) (s : Scan) → UpTo σ F k left s → s ≡ Conflict n → Scanned σ F s
+  up_to_conflict k n left s u e =
+      let h = conflict_more σ u.done left n (subst (λ (x : Scan). Scanned σ u.done x) e u.scanned) in
+      subst (λ (x : Scan). Scanned σ F x) (sym e) (subst (λ (G : List Clause). Scanned σ G (Conflict n)) (sym u.whole) h)
+
+  pub up_to_low : (k : ℕ) (left : List Clause) (s : Scan) → UpTo σ F k left s → k ≤ length F + 1
+  up_to_low k left s u = omega (arith, u.count, ap length u.whole, length-append u.done left)

@@ -1,12 +1,20 @@
 -- The test of a clause with one literal more.
-use Rattle.std.proofs.Common.{◌≡◌, ◌≢◌, [], ◌∷◌, ◌++◌, ℤ, sym, ap, ◌∙◌, subst, inl, inr, arith}
-use Rattle.model.specs.Clauses.{Clause, ◌∈◌}
+use Rattle.std.proofs.Common.{◌≡◌, ◌≢◌, [], ◌∷◌, ◌++◌, ℤ, Ok, Err, Result, sym, refl, ap, ◌∙◌, subst, inl, inr, arith}
+use Rattle.std.specs.Result.{IsOk}
+use Rattle.model.specs.Clauses.{Clause, ◌∈◌, Within}
+use Rattle.clauses.specs.declared.Literal.{Literal}
+use Rattle.clauses.specs.declared.NoLiteral.{NoLiteral}
 use Rattle.model.specs.Search.{Setting, value, AllFalse, UnitOn, SomeUnit, SomeTrue}
 use Rattle.scan.specs.declared.Test.{Test}
 use Rattle.scan.specs.declared.Test.TheVariants.{AllFalse as all_false, Unit as unit, SomeTrue as some_true, Open as neither}
 use Rattle.scan.specs.Tests.{Tested, SomeUnset}
-use Rattle.clauses.specs.Sets.{code}
+use Rattle.clauses.specs.Sets.{code, Coded}
 use Rattle.model.proofs.Members.{in_left, in_last, in_pushed}
+
+-- the number of a variable up to 256, either way, is that of a literal
+pub coded_ok : (t : ℤ) (r : Result Literal NoLiteral) → Coded t r → Within 256 t → IsOk r
+coded_ok t (Ok l) c w = refl
+coded_ok t (Err e) c w = absurd (c w)
 
 module _ (σ : Setting) (C : Clause) (t : ℤ) where
   pub true_more : SomeTrue σ C → SomeTrue σ (C ++ t ∷ [])

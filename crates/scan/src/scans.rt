@@ -33,12 +33,8 @@ pub fn scan(file: &StationFile, settings: &Settings) -> Scan
     ensures { Scanned settings.now (machine file.now).clauses result }
 {
     let mut so_far = Scan::Satisfied;
-    // from 0: with `1..=file.clauses()` the whole search takes up to a quarter longer
-    for i in 0..file.clauses() {
-        let Some(literals) = file.show(i + 1) else {
-            return unreachable();
-        };
-        so_far = add(so_far, i + 1, test(literals, settings));
+    for (k, literals) in (1u32..).zip(file.iter()) {
+        so_far = add(so_far, k, test(literals, settings));
         if let Scan::Conflict(_) = so_far {
             return so_far;
         }

@@ -1,5 +1,6 @@
 -- The search with one setting more, and its ends.
-use Rattle.std.proofs.Common.{◌≡◌, ℕ, zero, suc, ◌<◌, ◌≤◌, ◌≢◌, ◌⊎◌, List, [], ◌∷◌, ◌++◌, length, get_or, ℤ, sym, refl, ap, ◌∙◌, subst, inl, inr, append-nil, arith}
+use Rattle.std.proofs.Common.{◌≡◌, ℕ, zero, suc, ◌<◌, ◌≤◌, ◌≢◌, ◌⊎◌, List, [], ◌∷◌, ◌++◌, length, get_or, ℤ, Some, None, Option, sym, refl, ap, ◌∙◌, subst, inl, inr, append-nil, arith}
+use Rattle.std.specs.Option.{IsSome}
 use Rattle.model.specs.declared.Step.{Step}
 use Rattle.model.specs.declared.Reference.{Reference}
 use Rattle.model.specs.declared.Reference.TheVariants.{R}
@@ -7,7 +8,7 @@ use Rattle.model.specs.Clauses.{Clause, on, variable, Member, Each, Over}
 use Rattle.model.specs.Search.{Setting, entry, value, make_true, AllFalse, SomeTrue, First, Chosen, this, next, Undecided, fits, fails, Branch, conflict, satisfied}
 use Rattle.model.specs.Arguments.{unset}
 use Rattle.model.specs.Machine.{Machine}
-use Rattle.model.specs.Settling.{RecordMeaning, OrderMeaning, Lists}
+use Rattle.model.specs.Settling.{RecordMeaning, OrderMeaning, Lists, Chooses}
 use Rattle.model.specs.Way.{Entry, by_clause, on_side, Way, root, forced_here, on_here}
 use Rattle.model.proofs.Failing.{chosen_unset}
 use Rattle.model.proofs.Bound.{vacant_true}
@@ -25,9 +26,14 @@ use Rattle.search.proofs.Views.{held_marks}
 use Rattle.search.proofs.Weights.{pushed_weight}
 use Rattle.search.proofs.Logs.{logged_none}
 
-pub chosen_some : {σ : Setting} {list : List ℕ} {k : ℕ} → Chosen σ list k → Each (λ j. entry σ j ≢ 2) list → ⊥
-chosen_some (this e) n = n.0 e
-chosen_some (next d c) n = chosen_some c n.1
+all_set : {σ : Setting} {list : List ℕ} {k : ℕ} → Chosen σ list k → Each (λ j. entry σ j ≢ 2) list → ⊥
+all_set (this e) n = n.0 e
+all_set (next d c) n = all_set c n.1
+
+-- where there is one to choose, one is chosen
+pub chosen_some : (σ : Setting) (list : List ℕ) (k : ℕ) (o : Option ℕ) → Chosen σ list k → Chooses σ list o → IsSome o
+chosen_some σ list k (Some j) c h = refl
+chosen_some σ list k None c h = absurd (all_set c h)
 
 -- variable 0 is never unset
 pub chosen_low : (σ : Setting) (k : ℕ) → entry σ k ≡ 2 → 0 < k

@@ -20,13 +20,8 @@ impl State<'_> {
         requires { (k : ℕ) × Chosen (position self.now).settings (O.Order.meaning order.now).list k }
         ensures { (k : ℕ) × (code result ≡ on k) × Chosen (position self.now).settings (O.Order.meaning order.now).list k }
     {
-        let Some(k) = order.choose(self.settings.bytes()) else {
-            return unreachable();
-        };
-        let Ok(t) = Literal::try_from(i32::from(k)) else {
-            return unreachable();
-        };
-        t
+        let k = order.choose(self.settings.bytes()).unwrap();
+        Literal::try_from(i32::from(k)).unwrap()
     }
 
     // Goes back from a setting at which the clause numbered k is false.

@@ -89,11 +89,8 @@ pub(crate) fn frame_of(file: &StationFile, k: u32) -> Frame
     ensures by { result.by ≡ R k }
     ensures holds { (C : Clause) → clause_at (machine file.now).clauses k ≡ Some C → Holds result.clause C }
 {
-    let Some(literals) = file.show(k) else {
-        return unreachable();
-    };
     Frame {
         by: Reference::R(k),
-        clause: LiteralSet::of(literals),
+        clause: LiteralSet::of(file.show(k).unwrap()),
     }
 }
