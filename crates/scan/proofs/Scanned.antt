@@ -1,5 +1,5 @@
 -- The scan with one clause more.
-use Rattle.std.proofs.Common.{◌≡◌, ℕ, zero, suc, ◌+◌, ◌<◌, ◌≤◌, ◌≢◌, List, [], ◌∷◌, ◌++◌, length, get_or, sym, ap, ◌∙◌, subst, append_assoc, append-nil, arith, length-append}
+use Rattle.std.proofs.Common.{◌≡◌, ℕ, suc, ◌+◌, ◌≤◌, ◌≢◌, List, [], ◌∷◌, ◌++◌, length, sym, ap, ◌∙◌, subst, append_assoc, append-nil, arith, length-append}
 use Rattle.model.specs.Clauses.{Clause, Each}
 use Rattle.model.specs.Search.{Setting, value, AllFalse, UnitOn, SomeUnit, SomeTrue, First, here, later, NoneOf, Undecided}
 use Rattle.clauses.specs.declared.Literal.{Literal}
@@ -25,11 +25,6 @@ each_front P (y ∷ xs) x (a, h) = (a, each_front P xs x h)
 pub each_weaker : {A : Type 0} (P Q : A → Type 0) → ((x : A) → P x → Q x) → (xs : List A) → Each P xs → Each Q xs
 each_weaker P Q f [] h = tt
 each_weaker P Q f (x ∷ xs) (a, h) = (f x a, each_weaker P Q f xs h)
-
-pub each_get_or : {A : Type 0} (P : A → Type 0) (xs : List A) (i : ℕ) (d : A) → i < length xs → Each P xs → P (get_or xs i d)
-each_get_or P [] i d l h = absurd (omega arith)
-each_get_or P (x ∷ xs) zero d l (a, h) = a
-each_get_or P (x ∷ xs) (suc i) d l (a, h) = each_get_or P xs i d (omega arith) h
 
 pub first_more : (P : Clause → Type 0) {F : List Clause} {k : ℕ} {C : Clause} (G : List Clause) → First P F k C → First P (F ++ G) k C
 first_more P G (here h) = here h

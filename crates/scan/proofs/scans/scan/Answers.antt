@@ -1,4 +1,4 @@
-use Rattle.std.proofs.Common.{inl, inr, arith}
+use Rattle.std.proofs.Common.{refl, inl, inr, arith}
 use Rattle.std.specs.Iterator.Adapters.{zip_first, zip_second}
 use Rattle.station.specs.Left.{clauses_left}
 use Rattle.station.specs.Views.{machine}
@@ -15,7 +15,7 @@ one_more c =
 pub loop-k-init : goal.loop-k-init
 loop-k-init c =
     let z = c.into_iter-k-iterator.ensures.into_iter_gives in
-    up_to_start c.args.settings.now (machine c.args.file.now).clauses _ _ (rw (z, c.zip-k-items.ensures.first)) (rw (z, c.zip-k-items.ensures.second) c.iter.ensures)
+    up_to_start c.args.settings.now (machine c.args.file.now).clauses _ _ (rw (z, c.zip-k-items.ensures.first) refl) (rw (z, c.zip-k-items.ensures.second) c.iter.ensures)
 
 pub returns-in-Conflict : goal.returns-in-Conflict
 returns-in-Conflict c = up_to_conflict _ _ _ _ _ _ (one_more (goal.at.returns-in-Conflict c).After-add-so_far) c.in-Conflict.is

@@ -1,12 +1,15 @@
 use Rattle.std.proofs.Common.{◌<◌, ◌∙◌, arith, w32, SFits, rules}
 use Rattle.std.proofs.lemmas.Int.{to_z-of_z}
+use Rattle.model.specs.Settling.{Chooses}
 use Rattle.model.proofs.Failing.{chosen_unset}
 use Rattle.scan.proofs.Tested.{coded_ok}
 use Rattle.search.proofs.GoingOn.{chosen_some, chosen_low}
 use Rattle.search.proofs.State.chosen.Goals as goal
 
 pub unwrap-k-requires : goal.unwrap-k-requires
-unwrap-k-requires g c = chosen_some _ _ c.requires.0 _ (rw c.bytes.ensures c.requires.1) c.choose.ensures
+unwrap-k-requires g c =
+    let chosen : Chooses c.args.self.now.settings (g.O.Order.meaning c.args.order.now).list c.choose.result = rw (← c.bytes.ensures) c.choose.ensures in
+    chosen_some _ _ c.requires.0 _ c.requires.1 chosen
 
 pub unwrap-requires : goal.unwrap-requires
 unwrap-requires g c =
