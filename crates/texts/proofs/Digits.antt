@@ -1,7 +1,10 @@
 -- What the functions on numbers need.
-use Rattle.std.proofs.Common.{◌≡◌, ℕ, ◌+◌, ◌-◌, ◌*◌, ◌<◌, ◌≤◌, true, false, ◌&&◌, leb, ◌≢◌, ◌⊎◌, List, [], ◌∷◌, length, get_or, take, drop, Some, None, Option, sym, ap, ◌∙◌, ⊎_elim, arith}
+use Rattle.std.proofs.Common.{◌≡◌, ℕ, ◌+◌, ◌-◌, ◌*◌, ◌<◌, ◌≤◌, Bool, true, false, ◌&&◌, leb, ◌≢◌, ◌⊎◌, List, [], ◌∷◌, length, get_or, take, drop, Some, None, Option, sym, refl, ap, ◌∙◌, ⊎_elim, arith}
 use Rattle.std.proofs.lemmas.List.{take_rest, drop_more, drop_all}
 use Rattle.std.proofs.lemmas.Bool.{ne_eqb, lt-leb, le-leb, and_left, and_right, and_from, and_parts, leb-true, cond-true, cond-false}
+use Rattle.std.specs.Char.{digit_value, NotDecimalDigitIn}
+use Rattle.std.proofs.lemmas.Str.{digit_value_digit}
+use Rattle.std.proofs.lemmas.Str.Parse.{digit_from_value}
 use Rattle.model.specs.Numbers.{digit, digits, decimal_value, natural, integer, plain, negative}
 
 pub bad_length : (w : List ℕ) → (length w < 1) ⊎ (6 < length w) → None ≡ natural w
@@ -31,9 +34,9 @@ pub digits_done : (w : List ℕ) (i : ℕ) → length w ≤ i → digits (drop i
 unfolding digits
 digits_done w i l = ap digits (drop_all i w l)
 
-pub value_more : (w : List ℕ) (i v : ℕ) → i < length w → decimal_value (v * 10 + (get_or w i 0 - 48)) (drop (i + 1) w) ≡ decimal_value v (drop i w)
+pub value_more : (w : List ℕ) (i v d : ℕ) → i < length w → d ≡ get_or w i 0 - 48 → decimal_value (v * 10 + d) (drop (i + 1) w) ≡ decimal_value v (drop i w)
 unfolding decimal_value
-value_more w i v l = sym (ap (decimal_value v) (drop_more w i 0 l))
+value_more w i v d l e = ap (λ x. decimal_value (v * 10 + x) (drop (i + 1) w)) e ∙ sym (ap (decimal_value v) (drop_more w i 0 l))
 
 pub value_done : (w : List ℕ) (i v : ℕ) → length w ≤ i → decimal_value v (drop i w) ≡ v
 unfolding decimal_value
@@ -46,6 +49,21 @@ with_minus w o e q = ap (λ (x : Option ℕ). negative x) (q ∙ ap natural (tak
 pub without_minus : (w : List ℕ) (o : Option ℕ) → get_or w 0 0 ≢ 45 → o ≡ natural w → plain o ≡ integer w
 unfolding integer
 without_minus w o e q = ap (λ (x : Option ℕ). plain x) q ∙ rw (ne_eqb (get_or w 0 0) 45 e)
+
+-- what `to_digit` told
+
+pub no_digit : (b : ℕ) → NotDecimalDigitIn 10 b → digit b ≡ false
+no_digit b h = look (leb 48 b) (leb b 57) refl refl
+  where
+    look : (s t : Bool) → leb 48 b ≡ s → leb b 57 ≡ t → (s && t) ≡ false
+    look true true p q = let k : 58 ≤ b = h (leb-true 48 b p) (leb-true b 57 q) in absurd (omega (arith, k, leb-true b 57 q))
+    look true false p q = refl
+    look false t p q = refl
+
+pub a_digit : (b d : ℕ) → d < 10 → d ≡ digit_value b → (digit b ≡ true) × (d ≡ b - 48)
+a_digit b d l e =
+    let r = digit_from_value b (omega (arith, e)) in
+    (and_from _ _ (le-leb 48 b r.0) (le-leb b 57 r.1), omega (arith, e, digit_value_digit b r))
 
 pub at_most_57 : (b : ℕ) → digit b ≡ true → b ≤ 57
 at_most_57 b h = leb-true b 57 (and_parts (leb 48 b) (leb b 57) h).1

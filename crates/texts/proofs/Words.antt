@@ -1,8 +1,8 @@
 -- The words of a line, as they are given one by one.
-use Rattle.std.proofs.Common.{◌≡◌, ℕ, suc, ◌<◌, Bool, true, false, cond, not, ◌==◌, List, [], ◌∷◌, ◌++◌, map, filter, length, Some, None, Option, is_some, Bor, sym, refl, ap, ◌∙◌, append_assoc, arith}
+use Rattle.std.proofs.Common.{◌≡◌, ℕ, suc, ◌<◌, Bool, true, false, cond, not, ◌==◌, List, [], ◌∷◌, ◌++◌, map, filter, length, Some, None, Option, is_some, Bor, sym, refl, ap, ◌∙◌, subst, append_assoc, append-nil, arith}
 use Rattle.std.specs.List.{slice_split, onto_first}
 use Rattle.std.specs.Fn.{Mut, CalledAt}
-use Rattle.std.specs.Iterator.{AlwaysYields}
+use Rattle.std.specs.Iterator.{AlwaysYields, Yields}
 use Rattle.std.specs.Iterator.Runs.{EachRunFrom}
 use Rattle.std.specs.Iterator.Adapters.{filter_source, filter_callee, filter_steps}
 use Rattle.std.specs.Slice.Iter.{split_rest, split_done, split_callee, split_steps}
@@ -77,11 +77,17 @@ module _ {S A : Type 0} {steps : S → Option A → S → Type 0} {v : A → Lis
   gave_end None t i k = gave_all t k
   gave_end (Some x) t i k = absurd (true≢false (sym i))
 
-pub gave_none : {F H : Type 0} {g : Mut F (Bor ℕ × Unit {0}) Bool} {h : Mut H (Bor (Bor (List ℕ)) × Unit {0}) Bool} {f : F} {k : H} {p : _} {s : _} {Q : _} {R : _} (line : List ℕ)
+gave_more : {S A : Type 0} {steps : S → Option A → S → Type 0} {v : A → List ℕ} {all front : List (List ℕ)} {s t : S} → Gave steps v all front s → (xs : List A) → Yields steps s xs t → Gave steps v all (front ++ map v xs) t
+gave_more {steps = steps} {v = v} {all = all} {front = front} {t = t} g [] y = subst (λ w. Gave steps v all w t) (sym (append-nil front)) (subst (Gave steps v all front) y g)
+gave_more {steps = steps} {v = v} {all = all} {front = front} {t = t} g (x ∷ xs) y = subst (λ w. Gave steps v all w t) (append_assoc front (v x ∷ []) (map v xs)) (gave_more (gave_next g x y.0 y.1) xs y.2)
+
+-- the words that calls of `next` gave, in front
+pub gave : {F H : Type 0} {g : Mut F (Bor ℕ × Unit {0}) Bool} {h : Mut H (Bor (Bor (List ℕ)) × Unit {0}) Bool} {f : F} {k : H} {p : _} {s t : _} {Q : _} {R : _} (line : List ℕ)
     → record { rest : split_rest p ≡ line; done : split_done p ≡ false; closure : split_callee p ≡ f; runs : EachRunFrom (split_steps g) p Q }
     → record { source : filter_source s ≡ p; closure : filter_callee s ≡ k; runs : EachRunFrom (filter_steps (split_steps g) h) s R }
     → ((x : ℕ) (b : Bool) (q : F) → CalledAt g f x b q → (q ≡ f) × (b ≡ ends_word x)) → ((x : Bor (List ℕ)) (b : Bool) (q : H) → CalledAt h k x b q → (q ≡ k) × (b ≡ has_bytes x.now))
-    → Gave (filter_steps (split_steps g) h) (λ x. x.now) (spellings line) [] s
-gave_none {g = g} {h = h} line cut kept ends has =
+    → (xs : List (Bor (List ℕ))) → Yields (filter_steps (split_steps g) h) s xs t → Gave (filter_steps (split_steps g) h) (λ x. x.now) (spellings line) (map (λ x. x.now) xs) t
+gave {g = g} {h = h} {s = s} line cut kept ends has xs y =
     let w = YieldsList-from_filter h has_bytes (YieldsList-at kept.source (YieldsList-from_slice_split g ends_word line cut.rest cut.done cut.closure ends)) kept.closure has in
-    record { rest = filter has_bytes (slice_split ends_word line); parts = sym (spelt_by line); more = w.runs }
+    let none : Gave {A = Bor (List ℕ)} (filter_steps (split_steps g) h) (λ x. x.now) (spellings line) [] s = record { rest = filter has_bytes (slice_split ends_word line); parts = sym (spelt_by line); more = w.runs } in
+    gave_more none xs y

@@ -45,7 +45,7 @@ pub enum LineKind {
     Other,
 }
 
-// A number after the problem line, and how many bytes stand before it.
+// A number after the problem line, and how many bytes stand before it. One type `Placed<T>` would name `token` and `value` alike, which say more at their uses.
 #[derive(Clone, Copy, PartialEq, Eq, Debug)]
 pub struct Numeral {
     pub place: usize,

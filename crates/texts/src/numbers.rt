@@ -13,10 +13,7 @@ pub(crate) fn natural(w: &[u8]) -> Option<u32>
     }
     let mut v: u32 = 0;
     for b in w {
-        if !b.is_ascii_digit() {
-            return None;
-        }
-        v = v * 10 + (*b - b'0') as u32;
+        v = v * 10 + (*b as char).to_digit(10)?;
     }
     Some(v)
 }

@@ -47,6 +47,7 @@ impl<'a> Reader<'a> {
         requires { F.IsAlwaysCallable reads }
         ensures { Found (F.post reads) self.old self.new result }
     {
+        // Tried: `for p in self.by_ref()`; `next` of a `&mut` iterator does not promise to keep that reference, so the reader is unknown after the loop.
         while let Some(p) = self.next() {
             if let Some(x) = reads(p)? {
                 return Ok(Some(x));

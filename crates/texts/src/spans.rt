@@ -8,7 +8,7 @@ use super::LineKind;
 pub(crate) fn is_blank(b: &u8) -> bool
     ensures { result ≡ blank b.now }
 {
-    *b == b' ' || *b == b'\t' || *b == b'\r'
+    matches!(*b, b' ' | b'\t' | b'\r')
 }
 
 pub(crate) fn ends_line(b: &u8) -> bool

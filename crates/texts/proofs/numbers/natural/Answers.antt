@@ -1,7 +1,7 @@
 use Rattle.std.proofs.Common.{◌≡◌, ◌+◌, ◌*◌, ◌^◌, ◌<◌, ◌≤◌, ◌≢◌, length, get_or, sym, ◌∙◌, inl, inr, ⊎_elim, add-one, arith}
 use Rattle.std.proofs.lemmas.Bool.{eqb-true, eqb-false}
 use native.Mathlib.Nat.{pow-succ', pow-le-pow_right}
-use Rattle.texts.proofs.Digits.{bad_length, bad_digit, good_digits, digits_more, digits_broken, digits_done, value_more, value_done, at_most_57}
+use Rattle.texts.proofs.Digits.{bad_length, bad_digit, good_digits, digits_more, digits_broken, digits_done, value_more, value_done, no_digit, a_digit}
 use Rattle.texts.proofs.numbers.natural.Goals as goal
 
 pub returns-then-is_empty-clause-value : goal.returns-then-is_empty-clause-value
@@ -9,10 +9,10 @@ returns-then-is_empty-clause-value c =
     let n = length c.args.w.now in
     bad_length c.args.w.now (⊎_elim (λ a. inl (let z : n ≡ 0 = eqb-true n 0 (sym c.is_empty.ensures ∙ a) in omega arith)) (λ a. inr a.1) c.then-is_empty.either)
 
-pub returns-then-not-is_ascii_digit-clause-value : goal.returns-then-not-is_ascii_digit-clause-value
-returns-then-not-is_ascii_digit-clause-value c =
+pub returns-in_err-v-clause-value : goal.returns-in_err-v-clause-value
+returns-in_err-v-clause-value c =
     let w = c.args.w.now in
-    bad_digit w (sym c.loop-b.invariant.1 ∙ digits_broken w c.loop-b.b-index c.loop-b-test.true (sym c.if-not-is_ascii_digit.ensures.value))
+    c.from_residual.ensures ∙ bad_digit w (sym c.loop-b.invariant.1 ∙ digits_broken w c.loop-b.b-index c.loop-b-test.true (no_digit (get_or w c.loop-b.b-index 0) c.in_err-v.ensures.cases))
 
 pub loop-b-preserved : goal.loop-b-preserved
 loop-b-preserved c =
@@ -20,8 +20,11 @@ loop-b-preserved c =
     let i = c.loop-b.b-index in
     let v = c.loop-b.invariant in
     let l = c.loop-b-test.true in
+    let d = c.in_ok-v.field-0 in
+    let k = c.in_ok-v.ensures.value in
+    let t = a_digit (get_or w i 0) d (omega (arith, k.0, k.1)) k.1 in
     let e : 10 ^ (i + 1) ≡ 10 * 10 ^ i = rw add-one (pow-succ' 10 i) in
-    (omega (arith, e, v.0, at_most_57 (get_or w i 0) (sym c.if-not-is_ascii_digit.ensures.value)), digits_more w i l (sym c.if-not-is_ascii_digit.ensures.value) ∙ v.1, value_more w i c.loop-b.v l ∙ v.2)
+    (omega (arith, e, v.0, k.0, k.1), digits_more w i l t.0 ∙ v.1, value_more w i c.loop-b.v d l t.1 ∙ v.2)
 
 pub returns : goal.returns
 returns c =
