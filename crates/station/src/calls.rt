@@ -32,10 +32,7 @@ impl StationFile {
         ensures starts { Starts (machine self.old) variables number (machine self.new) result }
         ensures lives { BeginsLife (machine self.new) result }
     {
-        if variables == 0 {
-            return Err(Decline::BadSize);
-        }
-        if variables > MOST_VARIABLES {
+        if !(1..=MOST_VARIABLES).contains(&variables) {
             return Err(Decline::BadSize);
         }
         if !self.marks.is_empty() {

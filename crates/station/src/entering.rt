@@ -12,7 +12,7 @@ use model::Decline;
 fn in_range(n: u8, t: i32) -> bool
     ensures { result ≡ names n t }
 {
-    t != 0 && t <= n as i32 && t >= -(n as i32)
+    t != 0 && (-i32::from(n)..=i32::from(n)).contains(&t)
 }
 
 impl Hand {

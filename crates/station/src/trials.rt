@@ -48,10 +48,9 @@ impl StationFile {
         if !slip.is_blank() {
             return Err(Decline::SlipFilled);
         }
-        if self.marks.is_full() {
-            return Err(Decline::TrialsFull);
-        }
-        self.marks.push(self.counts.clauses);
+        self.marks
+            .try_push(self.counts.clauses)
+            .map_err(|_| Decline::TrialsFull)?;
         slip.held = Some(Held {
             file: self.number,
             depth: self.marks.len(),
