@@ -44,13 +44,8 @@ impl Hand {
         let Ok(kept) = &mut self.clause else {
             return;
         };
-        if kept.contains(&t) {
-            return;
-        }
-        if kept.is_full() {
+        if !kept.contains(&t) && kept.try_push(t).is_err() {
             self.clause = Err(Decline::WideClause);
-        } else {
-            kept.push(t);
         }
     }
 }
