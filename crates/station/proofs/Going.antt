@@ -151,8 +151,7 @@ done_all n tables k k' done whole w e number trials = w number trials ∙ ap (λ
 module _ (n : ℕ) (t₀ : Tables) (saved : Counts) (tables : Tables) (k : Counts) (s : Sound n t₀ saved) (s' : Sound n tables k) (f : Fronts saved t₀ tables k) where
   pub undone : (text : List ℕ) (x : ReadFault) → ((number : ℕ) (trials : List ℕ) → reading (machine_in n number t₀ saved trials) text ≡ faulty x) → (k' : Counts) → k' ≡ saved → (r : Result ℕ ReadFault) → IsErrAnd r (λ y. y ≡ x) → Sound n tables k' × ReadInto n t₀ saved text tables k' r
   undone text x w k' e r h =
-      let p = err_from_is_err_and r h in
-      (
+      let p = err_from_is_err_and r h in (
         done_sound n tables saved k' (left_sound n t₀ tables saved k s s' f) e,
         rw (p.1, p.2) (λ number trials. (w number trials, ap (λ (z : Counts). machine_in n number tables z trials) e ∙ left_machine n t₀ tables saved k s s' f number trials)),
       )

@@ -1,5 +1,5 @@
 // Entering a clause: literals are gathered in a hand, which is then appended to the tables of a file.
-ghost use Rattle.std.specs.Prelude.{◌≡◌, ℕ, List, [], ◌∷◌, ◌++◌, ℤ};
+ghost use Rattle.std.specs.Prelude.{◌≡◌, ℕ, List, [], ℤ};
 ghost use Rattle.model.specs.Machine.{names};
 ghost use Rattle.station.specs.Tables.{Sound};
 ghost use Rattle.station.specs.Hands.{Holds, Appended, Tells, joined};
