@@ -1,7 +1,9 @@
 -- What appending a hand to the tables of a file does, refusal by refusal, and what an entry leaves.
-use Rattle.std.proofs.Common.{◌≡◌, ℕ, ◌+◌, ◌-◌, ◌<◌, ◌≤◌, Bool, true, false, cond, not, ltb, List, [], ◌∷◌, ◌++◌, length, take, drop, set, ℤ, Some, Ok, Err, Option, sym, refl, ap, ◌∙◌, arith}
+use Rattle.std.proofs.Common.{◌≡◌, ℕ, ◌+◌, ◌-◌, ◌<◌, ◌≤◌, Bool, true, false, cond, not, ltb, List, [], ◌∷◌, ◌++◌, length, take, drop, set, ℤ, Some, Ok, Err, Option, Result, sym, refl, ap, ◌∙◌, arith}
 use Rattle.std.proofs.lemmas.List.{take-set, length-set, length-take-le, take_more_set, take-take, take_at, drop_at, drop-take}
 use Rattle.std.proofs.lemmas.Bool.{ne_eqb, lt-ltb, le-ltb, ltb-false, le-leb, lt-leb}
+use Rattle.std.specs.Borrow.{Bor}
+use Rattle.std.specs.Result.{MatchResult, IsErrAnd, result_copied}
 use Rattle.arrayvec.specs.ArrayVec.{ArrayVec}
 use Rattle.model.specs.declared.Decline.{Decline}
 use Rattle.model.specs.declared.Decline.TheVariants.{BadLiteral, WideClause, ClausesFull, LiteralsFull}
@@ -18,6 +20,7 @@ use Rattle.station.specs.Views.{standing, machine_in}
 use Rattle.station.specs.Hands.{gathered, Holds, Fronts, Added}
 use Rattle.station.proofs.Cuts.{parts_same, parts_push, last_push, rises_push}
 use Rattle.station.proofs.Files.{clauses_are, literals_are}
+use Rattle.station.proofs.Passed.{ok_before}
 
 -- what a clause in hand says of its literals
 pub record Fits (n : ℕ) (ts : List ℤ) (C : Clause) : Type 0 where
@@ -46,9 +49,9 @@ module _ (n : ℕ) (ts : List ℤ) where
           record { named = p; short = omega (arith, ltb-false 24 (length (merged [] ts)) q, ap length m); all = m }
       look false b p q e = absurd (let z : ◌≡◌ {A = ℕ} 0 1 = cc in omega arith)
 
--- the clause of a hand
-pub in_hand : (n : ℕ) (ts : List ℤ) (h : Hand) (v : ArrayVec ℤ) (C : Clause) → Holds n h ts → h.clause ≡ Ok v → C ≡ v.items → Fits n ts C
-in_hand n ts h v C g e c = rw c (fits n ts v (sym g.clause ∙ e))
+-- the clause of a hand, as it is borrowed
+pub in_hand : (Q : Bor Decline → Decline → Type 0) (n : ℕ) (ts : List ℤ) (h : Hand) (r : Result (Bor (ArrayVec ℤ)) (Bor Decline)) (r' : Result (Bor (ArrayVec ℤ)) Decline) (v : Bor (ArrayVec ℤ)) → Holds n h ts → result_copied r ≡ h.clause → MatchResult r (λ x. r' ≡ Ok x) (λ e. IsErrAnd r' (Q e)) → r' ≡ Ok v → Fits n ts v.now.items
+in_hand Q n ts h r r' v g e m o = fits n ts v.now (sym g.clause ∙ (sym e ∙ ap result_copied (ok_before Q r r' m v o)))
 
 module _ (n : ℕ) (t : Tables) (k : Counts) (s : Sound n t k) (ts : List ℤ) (C : Clause) (f : Fits n ts C) (some : n ≡ 0 → ⊥) where
   wide : ltb 24 (length (merged [] ts)) ≡ false

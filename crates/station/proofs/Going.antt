@@ -1,10 +1,14 @@
 -- One turn of reading a text into a file: where reading stands, as the code has it, and what each number does to it.
 use Rattle.std.proofs.Common.{◌≡◌, ℕ, suc, ◌+◌, ◌<◌, ◌≢◌, List, [], ◌∷◌, ◌++◌, length, ℤ, pos, Some, None, Ok, Err, Option, Result, sym, refl, ap, ◌∙◌, subst, arith}
+use Rattle.std.specs.Option.{ok_or}
+use Rattle.std.specs.Result.{IsErrAnd}
+use Rattle.std.proofs.lemmas.Result.{err_from_is_err_and}
 use Rattle.model.specs.declared.Decline.{Decline}
 use Rattle.model.specs.declared.ReadFault.{ReadFault}
 use Rattle.model.specs.declared.ReadFault.TheVariants.{InText}
 use Rattle.model.specs.declared.TextFault.{TextFault}
-use Rattle.model.specs.Faults.{problem_fault, file_fault}
+use Rattle.model.specs.declared.TextFault.TheVariants.{Problem}
+use Rattle.model.specs.Faults.{file_fault}
 use Rattle.model.specs.Words.{Placed, tokens}
 use Rattle.model.specs.Machine.{Machine}
 use Rattle.model.specs.Reading.{Reading, State, Step, on, stop, accepted, faulty, headed, took, holding, run, begun, reading}
@@ -17,7 +21,7 @@ use Rattle.station.specs.declared.Tables.{Tables}
 use Rattle.station.specs.Tables.{Sound}
 use Rattle.station.specs.Views.{machine_in}
 use Rattle.station.specs.Hands.{Holds, Fronts, Added, Refused}
-use Rattle.station.specs.Readings.{stands, ending, Ended}
+use Rattle.station.specs.Readings.{stands, ending, Ended, ReadInto}
 use Rattle.station.proofs.Fronts.{fronts_none, fronts_more, left_sound, left_machine}
 
 -- some literals are in hand, and going on from here answers what the whole text does
@@ -48,10 +52,18 @@ module _ (n : ℕ) (text : List ℕ) (tables : Tables) (k : Counts) (some : n �
     then_as : (o' : Option ℕ) → o ≡ o' → (s : State) → Before n s → Heading s ts left (Ok o')
     then_as o' e = let P : Option ℕ → Type 0 = λ x. (s : State) → Before n s → Heading s ts left (Ok x) in subst P e w
 
-    pub heading_none : o ≡ None → (number : ℕ) (trials : List ℕ) → reading (machine_in n number tables k trials) text ≡ faulty (problem_fault (length text))
-    heading_none e number trials =
+    none_there : (e f : TextFault) → Err f ≡ ok_or o e → (o ≡ None) × (e ≡ f)
+    none_there e f = look o refl
+      where
+        look : (x : Option ℕ) → o ≡ x → Err f ≡ ok_or x e → (o ≡ None) × (e ≡ f)
+        look None q p = (q, cc)
+        look (Some y) q p = absurd (let z : ◌≡◌ {A = ℕ} 0 1 = cc in omega arith)
+
+    pub heading_none : (e : TextFault) → Err e ≡ ok_or o (Problem (length text)) → (number : ℕ) (trials : List ℕ) → reading (machine_in n number tables k trials) text ≡ faulty (InText e)
+    heading_none e p number trials =
         let s = begun (machine_in n number tables k trials) in
-        sym (whole number trials) ∙ (run_ends (length text) s ts left (then_as None e s (first number trials)) ∙ no_problem_line (length text) s refl)
+        let a = none_there (Problem (length text)) e p in
+        sym (whole number trials) ∙ (run_ends (length text) s ts left (then_as None a.0 s (first number trials)) ∙ (no_problem_line (length text) s refl ∙ ap (λ x. faulty (InText x)) a.1))
 
     pub heading_on : (c : ℕ) → o ≡ Some c → Sound n tables k → (h : Hand) → Holds n h [] → Going n text tables k tables k c 0 h left
     heading_on c e s h g = record {
@@ -136,9 +148,10 @@ pub done_all : (n : ℕ) (tables : Tables) (k k' : Counts) (done : ℕ) (whole :
 done_all n tables k k' done whole w e number trials = w number trials ∙ ap (λ (z : Counts). accepted done (machine_in n number tables z trials)) (sym e)
 
 -- at a fault the counts are put back, and what stood stands
-module _ (n : ℕ) (t₀ : Tables) (saved : Counts) (tables : Tables) (k : Counts) (s : Sound n t₀ saved) (s' : Sound n tables k) (f : Fronts saved t₀ tables k) (k' : Counts) where
-  pub undone_sound : k' ≡ saved → Sound n tables k'
-  undone_sound e = done_sound n tables saved k' (left_sound n t₀ tables saved k s s' f) e
-
-  pub undone : (text : List ℕ) (x : ReadFault) → ((number : ℕ) (trials : List ℕ) → reading (machine_in n number t₀ saved trials) text ≡ faulty x) → k' ≡ saved → (number : ℕ) (trials : List ℕ) → (reading (machine_in n number t₀ saved trials) text ≡ faulty x) × (machine_in n number tables k' trials ≡ machine_in n number t₀ saved trials)
-  undone text x w e number trials = (w number trials, ap (λ (z : Counts). machine_in n number tables z trials) e ∙ left_machine n t₀ tables saved k s s' f number trials)
+module _ (n : ℕ) (t₀ : Tables) (saved : Counts) (tables : Tables) (k : Counts) (s : Sound n t₀ saved) (s' : Sound n tables k) (f : Fronts saved t₀ tables k) where
+  pub undone : (text : List ℕ) (x : ReadFault) → ((number : ℕ) (trials : List ℕ) → reading (machine_in n number t₀ saved trials) text ≡ faulty x) → (k' : Counts) → k' ≡ saved → (r : Result ℕ ReadFault) → IsErrAnd r (λ y. y ≡ x) → Sound n tables k' × ReadInto n t₀ saved text tables k' r
+  undone text x w k' e r h =
+      let p = err_from_is_err_and r h in (
+        done_sound n tables saved k' (left_sound n t₀ tables saved k s s' f) e,
+        rw (p.1, p.2) (λ number trials. (w number trials, ap (λ (z : Counts). machine_in n number tables z trials) e ∙ left_machine n t₀ tables saved k s s' f number trials)),
+      )

@@ -26,18 +26,21 @@ any_has (u ∷ C) t =
     look false b = refl
 
 -- a literal in range joins a clause: it stands there already, or there is no room, or it comes last
-module _ (n : ℕ) (v : ArrayVec ℤ) (t : ℤ) (C : Clause) (b : Bool) (i : names n t ≡ true) (all : C ≡ v.items) (h : b ≡ list_any (λ y. int_eq y t) C) where
-  has_it : has v.items t ≡ b
-  has_it = sym (any_has v.items t) ∙ (ap (list_any (λ y. int_eq y t)) (sym all) ∙ sym h)
+pub record Joins (n : ℕ) (v : ArrayVec ℤ) (t : ℤ) (b : Bool) : Type 0 where
+  pub old : b ≡ true → joined n (Ok v) t ≡ Ok v
+  pub wide : b ≡ false → length v.items ≡ 24 → joined n (Ok v) t ≡ Err WideClause
+  pub new : (w : ArrayVec ℤ) → b ≡ false → w.items ≡ v.items ++ (t ∷ []) → length w.items ≤ 24 → joined n (Ok v) t ≡ Ok w
 
-  pub joined_old : b ≡ true → joined n (Ok v) t ≡ Ok v
-  joined_old e = rw (i, has_it, e)
-
-  pub joined_wide : b ≡ false → length v.items ≡ 24 → joined n (Ok v) t ≡ Err WideClause
-  joined_wide e l = rw (i, has_it, e, lt-ltb 24 (length (v.items ++ (t ∷ []))) (omega (arith, l, length_push v.items t)))
-
-  pub joined_new : (w : ArrayVec ℤ) → b ≡ false → w.items ≡ v.items ++ (t ∷ []) → length w.items ≤ 24 → joined n (Ok v) t ≡ Ok w
-  joined_new w e a l = rw (i, has_it, e, sym a, le-ltb 24 (length w.items) l)
+pub joins : (n : ℕ) (v : ArrayVec ℤ) (t u : ℤ) (C : Clause) (a b : Bool) → u ≡ t → a ≡ names n u → a ≡ true → C ≡ v.items → b ≡ list_any (λ y. int_eq y u) C → Joins n v t b
+joins n v t u C a b is told inside all h =
+    let i : names n t ≡ true = ap (names n) (sym is) ∙ (sym told ∙ inside) in
+    let q : list_any (λ y. int_eq y u) C ≡ list_any (λ y. int_eq y t) v.items = rw (is, all) in
+    let m : has v.items t ≡ b = sym (any_has v.items t) ∙ sym (h ∙ q) in
+    record {
+      old = λ e. rw (i, m, e);
+      wide = λ e l. rw (i, m, e, lt-ltb 24 (length (v.items ++ (t ∷ []))) (omega (arith, l, length_push v.items t)));
+      new = λ w e p l. rw (i, m, e, sym p, le-ltb 24 (length w.items) l);
+    }
 
 -- what is gathered of one literal more
 pub gathered_push : (n : ℕ) (ts : List ℤ) (t : ℤ) → gathered n (ts ++ (t ∷ [])) ≡ joined n (gathered n ts) t

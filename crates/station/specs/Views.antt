@@ -1,6 +1,8 @@
 -- What a station file and a slip mean: the plain machine and the state of a slip that they stand for.
-use Rattle.std.specs.Prelude.{◌≡◌, ℕ, List, take, ℤ, Some, None, Option}
+use Rattle.std.specs.Prelude.{◌≡◌, ◌≢◌, ℕ, List, take, ℤ, Some, None, Ok, Err, Option, Result}
 use Rattle.std.specs.Borrow.{Bor}
+use Rattle.model.specs.declared.Decline.{Decline}
+use Rattle.model.specs.declared.Decline.TheVariants.{NotStarted}
 use Rattle.model.specs.Clauses.{Clause}
 use Rattle.model.specs.Machine.{Machine, SlipState, blank, filled, clause_at}
 use Rattle.station.specs.declared.Counts.{Counts}
@@ -20,6 +22,11 @@ machine_in n number t k trials = record { variables = n; number = number; clause
 
 unfoldable pub machine : StationFile → Machine
 machine f = machine_in f.variables f.number f.tables f.counts f.marks.items
+
+-- how many variables the file has, or that it was never started
+abbrev pub Started : Machine → Result ℕ Decline → Type 0
+Started m (Ok n) = (m.variables ≢ 0) × (n ≡ m.variables)
+Started m (Err e) = (m.variables ≡ 0) × (e ≡ NotStarted)
 
 -- a machine with the first clauses only
 abbrev pub cut_to : ℕ → Machine → Machine

@@ -2,7 +2,7 @@
 ghost use Rattle.std.specs.Prelude.{◌≡◌};
 ghost use Rattle.lives.specs.Lives.{BeginsLife};
 ghost use Rattle.model.specs.Machine.{fresh, Starts, Enters};
-ghost use Rattle.station.specs.Views.{machine};
+ghost use Rattle.station.specs.Views.{machine, Started};
 
 use super::{Hand, MOST_VARIABLES, NONE, StationFile, Tables};
 use arrayvec::ArrayVec;
@@ -32,10 +32,7 @@ impl StationFile {
         ensures starts { Starts (machine self.old) variables number (machine self.new) result }
         ensures lives { BeginsLife (machine self.new) result }
     {
-        if variables == 0 {
-            return Err(Decline::BadSize);
-        }
-        if variables > MOST_VARIABLES {
+        if !(1..=MOST_VARIABLES).contains(&variables) {
             return Err(Decline::BadSize);
         }
         if !self.marks.is_empty() {
@@ -45,6 +42,17 @@ impl StationFile {
         self.number = number;
         self.counts = NONE;
         Ok(())
+    }
+
+    // How many variables a file has that was started.
+    #[tactic(auto, unfolding(crate::specs::Views::machine, crate::specs::Views::machine_in))]
+    pub fn started(&self) -> Result<u8, Decline>
+        ensures { Started (machine self.now) result }
+    {
+        match self.variables {
+            0 => Err(Decline::NotStarted),
+            n => Ok(n),
+        }
     }
 
     // Enters a clause, equal literals merged, and answers its number.

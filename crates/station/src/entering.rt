@@ -1,5 +1,5 @@
 // Entering a clause: literals are gathered in a hand, which is then appended to the tables of a file.
-ghost use Rattle.std.specs.Prelude.{◌≡◌, ℕ, List, [], ◌∷◌, ◌++◌, ℤ};
+ghost use Rattle.std.specs.Prelude.{◌≡◌, ℕ, List, [], ℤ};
 ghost use Rattle.model.specs.Machine.{names};
 ghost use Rattle.station.specs.Tables.{Sound};
 ghost use Rattle.station.specs.Hands.{Holds, Appended, Tells, joined};
@@ -12,7 +12,7 @@ use model::Decline;
 fn in_range(n: u8, t: i32) -> bool
     ensures { result ≡ names n t }
 {
-    t != 0 && t <= n as i32 && t >= -(n as i32)
+    t != 0 && (-i32::from(n)..=i32::from(n)).contains(&t)
 }
 
 impl Hand {
@@ -44,13 +44,8 @@ impl Hand {
         let Ok(kept) = &mut self.clause else {
             return;
         };
-        if kept.contains(&t) {
-            return;
-        }
-        if kept.is_full() {
+        if !kept.contains(&t) && kept.try_push(t).is_err() {
             self.clause = Err(Decline::WideClause);
-        } else {
-            kept.push(t);
         }
     }
 }

@@ -53,14 +53,14 @@ fn read_into(n: u8, tables: &mut Tables, counts: &mut Counts, text: &[u8]) -> Re
     ensures reads { ReadInto n tables.old counts.old text.now tables.new counts.new result }
 {
     if n == 0 {
-        return Err(ReadFault::InFile(NEVER_STARTED));
+        return Err(NEVER_STARTED.into());
     }
     let saved = Some(*counts);
     let mut guard = Guard { counts, saved };
     let mut reader = Reader::over(text);
-    let Some(declared) = reader.heading(n as u32)? else {
-        return Err(ReadFault::InText(TextFault::Problem(text.len())));
-    };
+    let declared = reader
+        .heading(u32::from(n))?
+        .ok_or(TextFault::Problem(text.len()))?;
     let mut done: u32 = 0;
     let mut hand = Hand::empty(n);
     while let Some(t) = reader.number()? {

@@ -42,16 +42,13 @@ impl StationFile {
     pub fn open(&mut self, slip: &mut Slip) -> Result<(), Decline>
         ensures { Opens (machine self.old) (slip_state slip.old) (machine self.new) (slip_state slip.new) result }
     {
-        if self.variables == 0 {
-            return Err(Decline::NotStarted);
-        }
+        self.started()?;
         if !slip.is_blank() {
             return Err(Decline::SlipFilled);
         }
-        if self.marks.is_full() {
-            return Err(Decline::TrialsFull);
-        }
-        self.marks.push(self.counts.clauses);
+        self.marks
+            .try_push(self.counts.clauses)
+            .map_err(|_| Decline::TrialsFull)?;
         slip.held = Some(Held {
             file: self.number,
             depth: self.marks.len(),
@@ -64,9 +61,7 @@ impl StationFile {
     pub fn close(&mut self, slip: &mut Slip) -> Result<(), Decline>
         ensures { Closes (machine self.old) (slip_state slip.old) (machine self.new) (slip_state slip.new) result }
     {
-        if self.variables == 0 {
-            return Err(Decline::NotStarted);
-        }
+        self.started()?;
         let Some(held) = slip.held else {
             return Err(Decline::SlipBlank);
         };

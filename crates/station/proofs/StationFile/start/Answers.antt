@@ -10,7 +10,7 @@ pub returns-clause-lives : goal.returns-clause-lives
 unfolding machine machine_in parts
 returns-clause-lives c =
     let bare = nil_from_length c.args.self.now.marks.items (grind (arith, nat_tests)) in
-    rw bare (lives c.args.variables c.args.number (omega arith) (omega arith))
+    rw bare (lives c.args.variables c.args.number (grind (arith, nat_tests)) (grind (arith, nat_tests)))
 
 pub invariant_of-self : goal.invariant_of-self
 unfolding rises last_of
