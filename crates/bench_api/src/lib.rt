@@ -80,26 +80,47 @@ pub extern "C" fn tallowspan_read(text: &[u8], times: u32) -> u32 {
     clauses
 }
 
+// The order by number, the sheet and the memory that a file is settled in, made once for all its turns.
+#[derive(Drop)]
+struct Room {
+    order: ByNumber,
+    sheet: [u8; 200],
+    trail: [Mark; 200],
+    frames: [Frame; 200],
+}
+
+impl Room {
+    fn of(file: &StationFile) -> Room {
+        Room {
+            order: ByNumber::new(u32::from(file.variables())),
+            sheet: [0; 200],
+            trail: [Mark::blank(); 200],
+            frames: [Frame::blank(); 200],
+        }
+    }
+
+    fn settle<R: Record>(&mut self, file: &StationFile, record: &mut R) -> Result<Answer, Decline> {
+        settle(
+            file,
+            &self.order,
+            record,
+            &mut self.sheet,
+            &mut self.trail,
+            &mut self.frames,
+        )
+    }
+}
+
 // Settles a file so many times, with the order by number, and answers the last outcome.
 fn settled(file: &StationFile, times: u32) -> Outcome {
-    let order = ByNumber::new(file.variables() as u32);
-    let mut sheet = [0u8; 200];
-    let mut trail = [Mark::blank(); 200];
-    let mut frames = [Frame::blank(); 200];
+    let mut room = Room::of(file);
     let mut outcome = Outcome {
         answer: 0,
         steps: 0,
     };
     for _ in 0..times {
         let mut record = Counted { steps: 0 };
-        outcome.answer = match settle(
-            file,
-            &order,
-            &mut record,
-            &mut sheet,
-            &mut trail,
-            &mut frames,
-        ) {
+        outcome.answer = match room.settle(file, &mut record) {
             Err(_) => 0,
             Ok(Answer::Fits) => 1,
             Ok(Answer::Cannot(_)) => 2,
@@ -140,10 +161,6 @@ fn checked(
 #[unsafe(no_mangle)]
 pub extern "C" fn tallowspan_check(text: &[u8], times: u32, outcome: &mut Outcome) {
     let file = file_of(text);
-    let order = ByNumber::new(file.variables() as u32);
-    let mut sheet = [0u8; 200];
-    let mut trail = [Mark::blank(); 200];
-    let mut frames = [Frame::blank(); 200];
     let mut places = [Step {
         left: Reference::R(0),
         right: Reference::R(0),
@@ -151,14 +168,7 @@ pub extern "C" fn tallowspan_check(text: &[u8], times: u32, outcome: &mut Outcom
     }; 2_000];
     let mut memory = [LiteralSet::empty(); 2_000];
     let mut table = Table::new(&mut places);
-    if let Ok(Answer::Cannot(closing)) = settle(
-        &file,
-        &order,
-        &mut table,
-        &mut sheet,
-        &mut trail,
-        &mut frames,
-    ) {
+    if let Ok(Answer::Cannot(closing)) = Room::of(&file).settle(&file, &mut table) {
         *outcome = checked(&file, times, &table, closing, &mut memory);
     }
 }

@@ -1,12 +1,12 @@
 // Lives of a file, replayed call by call.
 #![tactic(auto)]
 
-use anyhow::{bail, ensure};
+use anyhow::ensure;
 use orders::by_number::ByNumber;
 use records::silent::Silent;
 use replay::rehearsing::rehearse;
 use replay::replaying::replay;
-use replay::{Call, Desk, NotRehearsed, Reply};
+use replay::{Call, Desk, Reply};
 use search::{Frame, Mark};
 use station::StationFile;
 
@@ -49,11 +49,8 @@ fn live(rt: &HostRuntime) -> anyhow::Result<()> {
         Call::Close(0),
         Call::Settle(2),
     ];
-    match rehearse(rt.alloc(), &mut file, &mut desk, &tried) {
-        Ok(replies) => print_replies(rt, "two more, rehearsed", &replies)?,
-        Err(NotRehearsed::Declined(_)) => bail!("the trial was declined"),
-        Err(NotRehearsed::Memory(e)) => return Err(e.into()),
-    }
+    let replies = rehearse(rt.alloc(), &mut file, &mut desk, &tried)?;
+    print_replies(rt, "two more, rehearsed", &replies)?;
     let again = [
         Call::Settle(0),
         Call::Read(b"p cnf 2 1\n1 x\n"),

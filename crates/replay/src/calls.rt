@@ -1,8 +1,6 @@
 // One call of a life.
-ghost use Rattle.std.specs.Prelude.{map};
 ghost use Rattle.station.specs.Views.{machine};
-ghost use Rattle.replay.specs.Desks.{stacks, Kept};
-ghost use Rattle.replay.specs.Replays.{Made};
+ghost use Rattle.replay.specs.Desks.{Kept, MadeAt};
 
 use super::{Call, Desk, Reply};
 use orders::Order;
@@ -18,9 +16,8 @@ pub(crate) fn make<O: Order, R: Record>(
     call: Call,
 ) -> Reply
     ensures kept { Kept desk.old desk.new }
-    ensures made { Made (O.Order.meaning desk.old.order.now) (stacks desk.old) call.entry result
-        (machine file.old) slips.old (map R.Record.meaning desk.old.records.now) desk.old.sheet.now
-        (machine file.new) slips.new (map R.Record.meaning desk.new.records.now) desk.new.sheet.now }
+    ensures made { MadeAt O.Order.meaning R.Record.meaning desk.old desk.new call.entry result
+        (machine file.old) slips.old (machine file.new) slips.new }
 {
     match call {
         Call::Enter(literals) => Reply::Entered(file.enter(literals)),

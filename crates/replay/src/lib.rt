@@ -3,10 +3,13 @@
 
 ghost use Rattle.std.specs.Prelude.{◌≡◌};
 ghost use Rattle.replay.specs.declared.NotRehearsed.TheVariants.{Declined, Memory};
+ghost use Rattle.replay.specs.Rehearsals.{shown};
 
 use model::{Answer, Decline, ReadFault};
 use search::{Frame, Mark};
 use std::alloc::AllocError;
+use std::error::Error;
+use std::fmt;
 
 mod calls;
 pub mod rehearsing;
@@ -64,3 +67,16 @@ impl From<AllocError> for NotRehearsed {
         NotRehearsed::Memory(e)
     }
 }
+
+impl fmt::Display for NotRehearsed {
+    ghost output = { shown };
+
+    fn fmt<W: fmt::Write>(&self, f: &mut fmt::Formatter<W>) -> fmt::Result {
+        match self {
+            NotRehearsed::Declined(_) => f.write_str("the trial was declined"),
+            NotRehearsed::Memory(error) => write!(f, "{error}"),
+        }
+    }
+}
+
+impl Error for NotRehearsed {}

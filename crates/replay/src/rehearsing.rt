@@ -1,8 +1,7 @@
 // Calls that are tried and taken back.
-ghost use Rattle.std.specs.Prelude.{map, vec_items};
+ghost use Rattle.std.specs.Prelude.{vec_items};
 ghost use Rattle.station.specs.Views.{machine};
-ghost use Rattle.replay.specs.Desks.{stacks, Kept};
-ghost use Rattle.replay.specs.Rehearsals.{Rehearsed};
+ghost use Rattle.replay.specs.Desks.{Kept, RehearsedAt};
 
 use super::replaying::replay;
 use super::{Call, Desk, NotRehearsed, Reply};
@@ -20,9 +19,8 @@ pub fn rehearse<O: Order, R: Record>(
     calls: &[Call],
 ) -> Result<Vec<Reply>, NotRehearsed>
     ensures kept { Kept desk.old desk.new }
-    ensures rehearsed { Rehearsed vec_items (O.Order.meaning desk.old.order.now) (stacks desk.old) calls.now result
-        (machine file.old) (map R.Record.meaning desk.old.records.now) desk.old.sheet.now
-        (machine file.new) (map R.Record.meaning desk.new.records.now) desk.new.sheet.now }
+    ensures rehearsed { RehearsedAt O.Order.meaning R.Record.meaning desk.old desk.new vec_items calls.now result
+        (machine file.old) (machine file.new) }
 {
     let mut slip = Slip::blank();
     file.open(&mut slip)?;

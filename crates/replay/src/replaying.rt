@@ -1,8 +1,7 @@
 // All calls of a life.
-ghost use Rattle.std.specs.Prelude.{map, vec_items};
+ghost use Rattle.std.specs.Prelude.{vec_items};
 ghost use Rattle.station.specs.Views.{machine};
-ghost use Rattle.replay.specs.Desks.{stacks, Kept};
-ghost use Rattle.replay.specs.Replays.{Replied};
+ghost use Rattle.replay.specs.Desks.{Kept, RepliedAt};
 
 use super::calls::make;
 use super::{Call, Desk, Reply};
@@ -20,9 +19,8 @@ pub fn replay<O: Order, R: Record>(
     calls: &[Call],
 ) -> Result<Vec<Reply>, AllocError>
     ensures kept { Kept desk.old desk.new }
-    ensures replied { Replied vec_items (O.Order.meaning desk.old.order.now) (stacks desk.old) calls.now result
-        (machine file.old) slips.old (map R.Record.meaning desk.old.records.now) desk.old.sheet.now
-        (machine file.new) slips.new (map R.Record.meaning desk.new.records.now) desk.new.sheet.now }
+    ensures replied { RepliedAt O.Order.meaning R.Record.meaning desk.old desk.new vec_items calls.now result
+        (machine file.old) slips.old (machine file.new) slips.new }
 {
     let mut replies = Vec::with_capacity(heap, calls.len())?;
     for call in calls {

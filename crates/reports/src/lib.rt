@@ -26,6 +26,7 @@ use texts::problems::variables_of;
 const MOST_STEPS: usize = 2_000;
 
 // Why a text is not settled: it is declined, in these lines, or memory for what is printed is wanting.
+// It is no `std::error::Error`: the programs print the lines of a decline as they stand, and pass on only want of memory.
 #[derive(Debug, Drop)]
 pub enum NotSettled {
     Declined(String),

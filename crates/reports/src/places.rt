@@ -1,5 +1,5 @@
 // Lines and columns of places in a text.
-ghost use Rattle.std.specs.Prelude.{◌≡◌, ℕ, ◌+◌, ◌==◌, not, length, take_while, reverse};
+ghost use Rattle.std.specs.Prelude.{◌≡◌, ◌+◌, ◌==◌, not, length, take_while, reverse};
 ghost use Rattle.reports.specs.Places.{line_ends, since_end, line_of, column_of};
 
 // A place by its line and column, both from 1.
