@@ -1,8 +1,8 @@
-use Rattle.std.proofs.Common.{◌≡◌, ℕ, zero, suc, ◌+◌, ◌-◌, ◌<◌, ◌≤◌, true, false, cond, ◌||◌, eqb, ltb, leb, List, [], ◌∷◌, ◌++◌, length, get_or, take, sym, refl, ap, ◌∙◌, ⊎_elim, eq-or-lt_of_le, arith, lt-ltb, eq-eqb, ne_eqb, le-leb}
-use Rattle.std.proofs.lemmas.List.{take_more}
+use Rattle.std.proofs.Common.{◌≡◌, ℕ, zero, suc, ◌+◌, ◌<◌, ◌≤◌, true, false, cond, ◌||◌, eqb, ltb, leb, List, [], ◌∷◌, ◌++◌, sym, refl, ◌∙◌, ⊎_elim, eq-or-lt_of_le, arith, lt-ltb, eq-eqb, ne_eqb, le-leb}
 use Rattle.std.proofs.lemmas.Bool.{cases_Bool}
 use Rattle.std.proofs.lemmas.List.Recursion.{or_push}
-use Rattle.orders.specs.Listed.{numbers, holds, wanted, listed, tally}
+use Rattle.model.specs.Settling.{OrderMeaning}
+use Rattle.orders.specs.Listed.{numbers, by_preference, holds, wanted, listed, tally}
 
 holds_push : (xs : List ℕ) (p k : ℕ) → holds (xs ++ (p ∷ [])) k ≡ (holds xs k || eqb p k)
 holds_push xs p k = or_push (λ ys. holds ys k) (λ x. eqb x k) refl (λ x ys. refl) xs p
@@ -48,22 +48,14 @@ tally_misses n xs p z h f = let e = tally_push n xs p z h f in let m = tally_mos
 wanted_adds : (n : ℕ) (xs : List ℕ) (p : ℕ) → 0 < p → p ≤ n → holds xs p ≡ false → listed n xs (p ∷ []) ≡ xs ++ (p ∷ [])
 wanted_adds n xs p z h f = let a : ltb 0 p ≡ true = lt-ltb 0 p z in let b : leb p n ≡ true = le-leb p n h in rw (a, b, f)
 
--- a loop that adds
+-- some are added, and then others
+pub listed_append : (n : ℕ) (xs js ks : List ℕ) → listed n xs (js ++ ks) ≡ listed n (listed n xs js) ks
+listed_append n xs [] ks = refl
+listed_append n xs (j ∷ js) ks = listed_append n (cond (wanted n xs j) (xs ++ (j ∷ [])) xs) js ks
 
-listed_push : (n : ℕ) (xs ks : List ℕ) (k : ℕ) → listed n xs (ks ++ (k ∷ [])) ≡ listed n (listed n xs ks) (k ∷ [])
-listed_push n xs [] k = refl
-listed_push n xs (j ∷ ks) k = listed_push n (cond (wanted n xs j) (xs ++ (j ∷ [])) xs) ks k
-
-listed_more : (n : ℕ) (xs ks : List ℕ) (i : ℕ) → i < length ks → listed n xs (take (i + 1) ks) ≡ listed n (listed n xs (take i ks)) (get_or ks i 0 ∷ [])
-listed_more n xs ks i h = ap (listed n xs) (take_more ks i 0 h) ∙ listed_push n xs (take i ks) (get_or ks i 0)
-
--- one turn: zs is ys with one more added
-pub adds_more : (n m : ℕ) (xs ys zs ks : List ℕ) (i : ℕ) → i < length ks → m ≡ n → ys ≡ listed n xs (take i ks) → zs ≡ listed m ys (get_or ks i 0 ∷ []) → zs ≡ listed n xs (take (i + 1) ks)
-adds_more n m xs ys zs ks i h s y z = z ∙ simp (s, y) (sym (listed_more n xs ks i h))
-
-pub adds_number : (n m : ℕ) (xs ys zs : List ℕ) (k : ℕ) → 0 < k → m ≡ n → ys ≡ listed n xs (numbers (k - 1)) → zs ≡ listed m ys (k ∷ []) → zs ≡ listed n xs (numbers k)
-adds_number n m xs ys zs zero h s y z = absurd (omega arith)
-adds_number n m xs ys zs (suc k) h s y z = let e : suc k - 1 ≡ k = omega arith in z ∙ simp (s, y, e) (sym (listed_push n xs (numbers k) (suc k)))
+-- one turn of a loop that adds: zs is ys with one more added
+pub adds_one : (n m : ℕ) (ys zs ks : List ℕ) (k : ℕ) → m ≡ n → ys ≡ listed n [] ks → zs ≡ listed m ys (k ∷ []) → zs ≡ listed n [] (ks ++ (k ∷ []))
+adds_one n m ys zs ks k s y z = z ∙ simp (s, y) (sym (listed_append n [] ks (k ∷ [])))
 
 -- every number of 1 to n among those to be added is listed in the end
 
@@ -78,13 +70,13 @@ one_held n xs j z h = ⊎_elim
     (λ (e : holds xs j ≡ false). let q : eqb j j ≡ true = eq-eqb j j refl in rw (wanted_adds n xs j z h e, holds_push xs j j, e, q))
     (cases_Bool (holds xs j))
 
-pub all_held : (n m : ℕ) (xs : List ℕ) (j : ℕ) → 0 < j → j ≤ m → m ≤ n → holds (listed n xs (numbers m)) j ≡ true
+all_held : (n m : ℕ) (xs : List ℕ) (j : ℕ) → 0 < j → j ≤ m → m ≤ n → holds (listed n xs (numbers m)) j ≡ true
 all_held n zero xs j z h l = absurd (omega arith)
-all_held n (suc m) xs j z h l = rw (listed_push n xs (numbers m) (suc m)) (⊎_elim
+all_held n (suc m) xs j z h l = rw (listed_append n xs (numbers m) (suc m ∷ [])) (⊎_elim
     (λ (e : j ≡ suc m). rw e (one_held n (listed n xs (numbers m)) (suc m) (omega arith) l))
     (λ (q : j < suc m). keeps_held n (listed n xs (numbers m)) (suc m ∷ []) j (all_held n m xs j z (omega arith) (omega arith)))
     (eq-or-lt_of_le h))
 
--- a listing that was completed
-pub completed : (t u : ℕ) (ys zs : List ℕ) → u ≡ t → zs ≡ listed t ys (numbers t) → (k : ℕ) → 0 < k → k ≤ u → holds zs k ≡ true
-completed t u ys zs e f k z h = rw f (all_held t t ys k z (omega arith) (omega arith))
+-- a listing by preference
+pub completed : (n : ℕ) (ps : List ℕ) (o : OrderMeaning) → o ≡ by_preference n ps → (k : ℕ) → 0 < k → k ≤ o.size → holds o.list k ≡ true
+completed n ps o e k z h = rw e (all_held n n (listed n [] ps) k z (rw e at h) (omega arith))

@@ -18,10 +18,9 @@ impl ByPreference {
     pub fn new(size: u32, preferences: &[u32]) -> Self
         ensures { order_of result.listing ≡ by_preference (min size 200) preferences.now }
     {
-        let mut listing = Listing::new(size);
-        listing.prefer(preferences);
-        listing.complete();
-        ByPreference { listing }
+        ByPreference {
+            listing: Listing::of(size, preferences),
+        }
     }
 }
 

@@ -20,6 +20,7 @@ pub trait Order {
         ensures { result ≡ (meaning self.now).size };
 
     // The first variable of the list whose byte is 2 (unset), if there is one; missing bytes and other values count as set.
+    // In bytes, 0, 1 and 2: that is the call that the project asked for.
     fn choose(&self, settings: &[u8]) -> Option<u8>
         ensures { Chooses settings.now (meaning self.now).list result };
 }

@@ -57,6 +57,7 @@ impl<'a> Record for Lines<'a> {
             return Err(Decline::RecordFull);
         }
         let at = self.used * 28;
+        // by a slice: of as_chunks_mut nothing is said of what the bytes hold afterwards
         self.bytes[at..at + 28].copy_from_slice(&line::write(step));
         self.used += 1;
         Ok(())

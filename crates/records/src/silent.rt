@@ -19,8 +19,7 @@ impl Record for Silent {
 
     ghost limits = { λ _ k. absurd (false≢true k) };
 
-    fn put(&mut self, step: Step) -> Result<(), Decline> {
-        let _ = step;
+    fn put(&mut self, _step: Step) -> Result<(), Decline> {
         Ok(())
     }
 
@@ -32,8 +31,7 @@ impl Record for Silent {
         0
     }
 
-    fn look(&self, k: usize) -> Option<Step> {
-        let _ = k;
+    fn look(&self, _k: usize) -> Option<Step> {
         None
     }
 }

@@ -7,6 +7,7 @@ use model::{Decline, Step};
 
 // Holds its steps in given places, the first 65,535 at most.
 // Beside Lines, not one with it: a record over blocks of N elements (tried) has a method and a contract more for each of the four lines that the two share.
+// Nor is it one with search's Stack, which pops, and stands in a crate above.
 #[derive(Drop)]
 pub struct Table<'a> {
     // lent memory with a count beside it, by a rule of the project

@@ -47,47 +47,47 @@ fn second() -> Step {
 fn a_table(rt: HostRuntime) {
     let mut places = [first(); 3];
     let mut table = Table::new(&mut places);
-    assert!(rt; table.left() == Some(3));
-    assert!(rt; put_two(&mut table, first(), second()) == Ok(()));
-    assert!(rt; table.look(2) == Some(second()));
-    assert!(rt; table.count() == 2);
-    assert!(rt; table.left() == Some(1));
-    assert!(rt; table.look(0) == None);
-    assert!(rt; table.look(3) == None);
+    assert_eq!(rt; table.left(), Some(3));
+    assert_eq!(rt; put_two(&mut table, first(), second()), Ok(()));
+    assert_eq!(rt; table.look(2), Some(second()));
+    assert_eq!(rt; table.count(), 2);
+    assert_eq!(rt; table.left(), Some(1));
+    assert_eq!(rt; table.look(0), None);
+    assert_eq!(rt; table.look(3), None);
 }
 
 #[test]
 fn no_places(rt: HostRuntime) {
     let mut table = Table::new(&mut []);
-    assert!(rt; table.put(first()) == Err(Decline::RecordFull));
-    assert!(rt; table.count() == 0);
+    assert_eq!(rt; table.put(first()), Err(Decline::RecordFull));
+    assert_eq!(rt; table.count(), 0);
 }
 
 #[test]
 fn a_line(rt: HostRuntime) {
     let mut bytes = [0; 28];
     let mut lines = Lines::new(&mut bytes);
-    assert!(rt; put_two(&mut lines, first(), second()) == Err(Decline::RecordFull));
-    assert!(rt; lines.text() == b"R0000000003 S4294967295 200\n".as_slice());
-    assert!(rt; lines.look(1) == Some(first()));
+    assert_eq!(rt; put_two(&mut lines, first(), second()), Err(Decline::RecordFull));
+    assert_eq!(rt; lines.text(), b"R0000000003 S4294967295 200\n".as_slice());
+    assert_eq!(rt; lines.look(1), Some(first()));
 }
 
 #[test]
 fn too_short_for_a_line(rt: HostRuntime) {
     let mut bytes = [0; 27];
     let mut lines = Lines::new(&mut bytes);
-    assert!(rt; lines.left() == Some(0));
-    assert!(rt; lines.put(first()) == Err(Decline::RecordFull));
-    assert!(rt; lines.text() == b"".as_slice());
+    assert_eq!(rt; lines.left(), Some(0));
+    assert_eq!(rt; lines.put(first()), Err(Decline::RecordFull));
+    assert_eq!(rt; lines.text(), b"".as_slice());
 }
 
 #[test]
 fn a_silent_record(rt: HostRuntime) {
     let mut silent = Silent;
-    assert!(rt; put_two(&mut silent, first(), second()) == Ok(()));
-    assert!(rt; silent.look(2) == None);
-    assert!(rt; silent.left() == None);
-    assert!(rt; silent.count() == 0);
+    assert_eq!(rt; put_two(&mut silent, first(), second()), Ok(()));
+    assert_eq!(rt; silent.look(2), None);
+    assert_eq!(rt; silent.left(), None);
+    assert_eq!(rt; silent.count(), 0);
 }
 
 // However much memory is lent.
@@ -95,10 +95,10 @@ fn a_silent_record(rt: HostRuntime) {
 fn at_most_65535_steps(rt: HostRuntime) -> Result<(), Fail> {
     let heap = rt.alloc();
     let mut enough = vec![in heap; first(); 65_535]?;
-    assert!(rt; Table::new(&mut enough).left() == Some(65_535));
+    assert_eq!(rt; Table::new(&mut enough).left(), Some(65_535));
     let mut more = vec![in heap; first(); 65_536]?;
-    assert!(rt; Table::new(&mut more).left() == Some(65_535));
+    assert_eq!(rt; Table::new(&mut more).left(), Some(65_535));
     let mut bytes = vec![in heap; 0u8; 1_835_008]?;
-    assert!(rt; Lines::new(&mut bytes).left() == Some(65_535));
+    assert_eq!(rt; Lines::new(&mut bytes).left(), Some(65_535));
     Ok(())
 }

@@ -1,13 +1,25 @@
 ghost use Rattle.std.specs.Prelude.{◌≡◌, min, [], ◌∷◌};
-ghost use Rattle.orders.specs.Listed.{listed, numbers};
-ghost use Rattle.orders.specs.Listing.{list_of};
+ghost use Rattle.orders.specs.Listed.{listed, by_preference};
+ghost use Rattle.orders.specs.Listing.{list_of, order_of};
 
 use super::Listing;
 use arrayvec::ArrayVec;
 
 impl Listing {
+    // The preferences in turn, and then the other variables by number.
+    pub fn of(size: u32, preferences: &[u32]) -> Self
+        ensures { order_of result ≡ by_preference (min size 200) preferences.now }
+    {
+        let mut listing = Listing::new(size);
+        let others = 1..=u32::from(listing.size());
+        for k in preferences.iter().copied().chain(others) {
+            listing.add(k);
+        }
+        listing
+    }
+
     // No variable listed yet; a size above 200 is taken as 200.
-    pub fn new(size: u32) -> Self
+    fn new(size: u32) -> Self
         ensures capped { result.size ≡ min size 200 }
         ensures empty { list_of result ≡ [] }
     {
@@ -39,26 +51,6 @@ impl Listing {
         };
         if (1..=self.size).contains(&variable) && !self.list.contains(&variable) {
             self.list.push(variable);
-        }
-    }
-
-    // Adds the preferences in turn.
-    pub fn prefer(&mut self, preferences: &[u32])
-        ensures sized { self.new.size ≡ self.old.size }
-        ensures added { list_of self.new ≡ listed self.old.size (list_of self.old) preferences.now }
-    {
-        for p in preferences {
-            self.add(*p);
-        }
-    }
-
-    // Adds the other variables by number.
-    pub fn complete(&mut self)
-        ensures sized { self.new.size ≡ self.old.size }
-        ensures added { list_of self.new ≡ listed self.old.size (list_of self.old) (numbers self.old.size) }
-    {
-        for k in 1..=u32::from(self.size) {
-            self.add(k);
         }
     }
 }
