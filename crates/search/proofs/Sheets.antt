@@ -60,7 +60,7 @@ allowed m o rec sheet trail frames e =
 
 module _ (m : Machine) (o : OrderMeaning) (rec rec' : RecordMeaning) (sheet : List ℕ) where
   -- the sheet is written where the answer is "fits"
-  abbrev sheet_after : Result Answer Decline → Setting → List ℕ
+  abbrev pub sheet_after : Result Answer Decline → Setting → List ℕ
   sheet_after (Ok Fits) τ = written τ sheet
   sheet_after (Ok (Cannot r)) τ = sheet
   sheet_after (Err d) τ = sheet

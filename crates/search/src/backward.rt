@@ -1,9 +1,9 @@
 // The way back from a clause that is false.
-ghost use Rattle.std.specs.Prelude.{◌≡◌, ℕ, ◌<◌, ◌≤◌, List, [], ◌∷◌, ◌++◌, length};
+ghost use Rattle.std.specs.Prelude.{◌≡◌, ◌<◌, length};
 ghost use Rattle.search.specs.States.{position, machine_of, Run, Stuck, Stepped, Unwound};
 
 use super::moves::frame_of;
-use super::{Frame, State, Turn, Why};
+use super::{Frame, Mark, State, Turn, Why};
 use model::Decline;
 use records::Record;
 
@@ -17,23 +17,15 @@ impl State<'_> {
         ensures stepped { (run : Run) → Stuck run (machine_of self.old) (R.Record.meaning «record».old) (position self.old) failure.old
             → Stepped run (machine_of self.old) (position self.old) (R.Record.meaning «record».new) (position self.new) failure.new result }
     {
-        let mark = self.trail.pop();
-        let t = mark.literal;
-        let why = mark.why;
+        let Mark { literal: t, why } = self.trail.pop();
         self.settings.clear(t);
-        match why {
-            Why::Clause(k) => {
-                let setter = frame_of(self.file, k);
-                self.past(record, t, &setter, failure)?;
-                Ok(Turn::Failing)
-            }
-            Why::On => Ok(self.turn(t, failure)),
-            Why::Off => {
-                let setter = self.frames.pop();
-                self.past(record, t, &setter, failure)?;
-                Ok(Turn::Failing)
-            }
-        }
+        let setter = match why {
+            Why::On => return Ok(self.turn(t, failure)),
+            Why::Clause(k) => frame_of(self.file, k),
+            Why::Off => self.frames.pop(),
+        };
+        self.past(record, t, &setter, failure)?;
+        Ok(Turn::Failing)
     }
 
     // Takes a failing clause back until a choice is turned, or nothing is set.

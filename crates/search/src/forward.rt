@@ -1,5 +1,5 @@
 // One turn of the search: the rules of docs/search.md in their order.
-ghost use Rattle.std.specs.Prelude.{◌≡◌, ℕ, ◌<◌, ◌≤◌, length};
+ghost use Rattle.std.specs.Prelude.{◌≡◌, ℕ};
 ghost use Rattle.model.specs.Clauses.{Clause, on};
 ghost use Rattle.model.specs.Search.{AllFalse, First, Chosen};
 ghost use Rattle.clauses.specs.Sets.{code};

@@ -1,7 +1,7 @@
 // Single moves: a literal is set, a failing clause goes past one, a choice is turned.
-ghost use Rattle.std.specs.Prelude.{◌≡◌, ℕ, ◌+◌, ◌<◌, ◌≤◌, [], ◌∷◌, ◌++◌, length, Some};
+ghost use Rattle.std.specs.Prelude.{◌≡◌, ◌<◌, [], ◌∷◌, ◌++◌, length, Some};
 ghost use Rattle.model.specs.declared.Reference.TheVariants.{R};
-ghost use Rattle.model.specs.Clauses.{Clause, opposite};
+ghost use Rattle.model.specs.Clauses.{Clause};
 ghost use Rattle.model.specs.Search.{make_true, made as made_of};
 ghost use Rattle.model.specs.Machine.{clause_at};
 ghost use Rattle.clauses.specs.Sets.{code, Holds};

@@ -1,5 +1,5 @@
 // Settling a file.
-ghost use Rattle.std.specs.Prelude.{◌≡◌, ℕ, ◌<◌, ◌≤◌, false, List, [], ◌∷◌, length, ℤ, pos, None};
+ghost use Rattle.std.specs.Prelude.{◌≡◌, ◌≤◌, false, [], ◌∷◌, length, ℤ, pos};
 ghost use Rattle.model.specs.Settling.{settle_refusal, written, Settles, Worth};
 ghost use Rattle.model.specs.Arguments.{unset};
 ghost use Rattle.model.specs.declared.Reference.TheVariants.{R};
@@ -43,7 +43,7 @@ fn refusal<O: Order, R: Record>(
     Ok(())
 }
 
-// 1 for on and 0 for off and unset, into the first places of the sheet.
+// 1 for on and 0 for off and unset, into the first places of the sheet. The sheet is bytes, 1 and 0, as the call that was asked for has it.
 fn write(settings: &[u8], sheet: &mut [u8])
     requires { length settings.now ≤ length sheet.old }
     ensures { sheet.new ≡ written settings.now sheet.old }
@@ -76,6 +76,7 @@ impl<'m> State<'m> {
 }
 
 // Finds a valuation that satisfies every clause of the file, or the steps of an argument that none does: see docs/search.md.
+// Six parameters and no struct of them: that is the call that the project asked for, and a refusal speaks of each length.
 pub fn settle<O: Order, R: Record>(
     file: &StationFile,
     order: &O,
