@@ -1,7 +1,7 @@
 // The station file: at most 1,000 clauses over at most 200 variables, and trials that can be taken back.
 #![tactic(auto)]
 
-ghost use Rattle.std.specs.Prelude.{◌<◌, ◌≤◌};
+ghost use Rattle.std.specs.Prelude.{◌<◌, ◌≤◌, length};
 ghost use Rattle.station.specs.Tables.{Sound};
 
 pub mod calls;
@@ -60,6 +60,7 @@ pub struct StationFile {
     counts: Counts,
     marks: ArrayVec<u16, MOST_TRIALS>,
     ghost few_variables: { variables ≤ 200 },
+    ghost few_trials: { length marks.items ≤ 8 },
     ghost sound: { Sound variables tables counts },
 }
 

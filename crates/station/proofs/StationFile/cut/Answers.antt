@@ -10,4 +10,4 @@ overflow_cast-literals c =
 pub invariant_of-self : goal.invariant_of-self
 invariant_of-self c =
     let f = c.args.self.now in
-    record { few_variables = f.few_variables; sound = cut_sound f c.args.kept c.if-kept-self.true c.start_of-literals.result c.start_of-literals.ensures }
+    record { few_variables = f.few_variables; few_trials = f.few_trials; sound = cut_sound f c.args.kept c.if-kept-self.true c.start_of-literals.result c.start_of-literals.ensures }
