@@ -11,7 +11,7 @@ impl TryFrom<i32> for Literal {
 
     fn try_from(number: i32) -> Result<Literal, NoLiteral> {
         let at = number.unsigned_abs();
-        if at == 0 || at > 256 {
+        if !(1..=256).contains(&at) {
             return Err(NoLiteral);
         }
         let index = (at - 1) as u8;

@@ -34,6 +34,14 @@ unfolding word
 word_count (R n) = ap suc (digits_count 10 n)
 word_count (S n) = ap suc (digits_count 10 n)
 
+pub line_count : (s : Step) → length (line s) ≡ 28
+unfolding line
+line_count s =
+    let d = length-append (digits 3 s.variable) (10 ∷ []) in
+    let r = length-append (word s.right) (32 ∷ (digits 3 s.variable ++ (10 ∷ []))) in
+    let l = length-append (word s.left) (32 ∷ (word s.right ++ (32 ∷ (digits 3 s.variable ++ (10 ∷ []))))) in
+    omega (arith, digits_count 3 s.variable, word_count s.right, word_count s.left)
+
 -- a line's two references with a blank after each
 front : List ℕ → List ℕ → List ℕ
 front w u = (w ++ (32 ∷ [])) ++ (u ++ (32 ∷ []))

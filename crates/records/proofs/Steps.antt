@@ -1,4 +1,4 @@
-use Rattle.std.proofs.Common.{◌≡◌, ℕ, zero, suc, ◌+◌, ◌*◌, ◌<◌, ◌≤◌, List, [], ◌∷◌, ◌++◌, map, length, take, drop, Some, sym, refl, ap, ◌∙◌, arith}
+use Rattle.std.proofs.Common.{◌≡◌, ℕ, zero, suc, ◌+◌, ◌-◌, ◌*◌, ◌<◌, ◌≤◌, List, [], ◌∷◌, ◌++◌, map, length, take, drop, Some, sym, refl, ap, ◌∙◌, arith}
 use borrow.Rule.Slice.PartMut.{put_mid}
 use Rattle.std.specs.List.{slice_get}
 use Rattle.std.specs.Simd.{first_chunks}
@@ -8,6 +8,7 @@ use Rattle.std.proofs.lemmas.List.{length_push, length-append, length-drop, leng
 use Rattle.model.specs.declared.Step.{Step}
 use Rattle.records.specs.Kept.{Beyond}
 use Rattle.records.specs.Line.{line, lines, said, steps_in}
+use Rattle.records.proofs.Laid.{line_count}
 
 pub steps_count : (n : ℕ) (bs : List ℕ) → length (steps_in n bs) ≡ n
 unfolding steps_in
@@ -66,9 +67,11 @@ pub record OneMore (n : ℕ) (es bs : List ℕ) (s : Step) : Type 0 where
   pub held : steps_in (n + 1) bs ≡ steps_in n es ++ (s ∷ [])
   pub exact : Exact n es → Exact (n + 1) bs
 
-pub one_more : (n k : ℕ) (es text : List ℕ) (s : Step) → k ≡ 28 → n * 28 + 28 ≤ length es → length text ≡ 28 → text ≡ line s → said text ≡ s
-    → OneMore n es (put_mid (n * 28) k es text) s
-one_more n k es text s e le tl is st =
+pub one_more : (n : ℕ) (es text : List ℕ) (s : Step) → n * 28 + 28 ≤ length es → text ≡ line s → said text ≡ s → OneMore n es (put_mid (n * 28) (n * 28 + 28 - n * 28) es text) s
+one_more n es text s le is st =
+    let k : ℕ = n * 28 + 28 - n * 28 in
+    let e : k ≡ 28 = omega arith in
+    let tl : length text ≡ 28 = ap length is ∙ line_count s in
     let at : n * 28 ≤ length es = omega arith in
     let end : (n + 1) * 28 ≡ n * 28 + 28 = omega arith in
     let bs : List ℕ = put_mid (n * 28) k es text in

@@ -1,4 +1,4 @@
-// A step in a line of 28 bytes. Written and read by functions, and by no `From` between `Step` and `[u8; 28]`: a call would not say that the bytes are a line.
+// A step in a line of 28 bytes. Written and read by functions, and by no `From`: neither Step nor [u8; 28] belongs to this crate.
 ghost use Rattle.std.specs.Prelude.{◌≡◌, ◌%◌, length};
 ghost use Rattle.records.specs.Line.{digits, number, word, named, line, said};
 

@@ -67,7 +67,10 @@ fn no_places(rt: HostRuntime) {
 fn a_line(rt: HostRuntime) {
     let mut bytes = [0; 28];
     let mut lines = Lines::new(&mut bytes);
-    assert_eq!(rt; put_two(&mut lines, first(), second()), Err(Decline::RecordFull));
+    assert_eq!(rt;
+        put_two(&mut lines, first(), second()),
+        Err(Decline::RecordFull)
+    );
     assert_eq!(rt; lines.text(), b"R0000000003 S4294967295 200\n".as_slice());
     assert_eq!(rt; lines.look(1), Some(first()));
 }

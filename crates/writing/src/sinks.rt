@@ -1,5 +1,5 @@
 // Where the bytes of a text go: into a buffer, or only into a count.
-ghost use Rattle.std.specs.Prelude.{◌≡◌, ◌≤◌, ℕ, List, [], length};
+ghost use Rattle.std.specs.Prelude.{◌≡◌, ◌≤◌, ℕ, List, length};
 ghost use Rattle.writing.specs.Sinks.{Puts, count, Filled};
 
 // Takes bytes, one after the other.
