@@ -9,6 +9,7 @@ use clauses::Literal;
 use std::marker::Model;
 
 // What each of n variables is set to: 0 for off, 1 for on and 2 for unset, in bytes since an order is asked with bytes.
+// An array and its length, no ArrayVec: tried, with `get` and `checked_sub` in `entry`; random texts took about 6 % longer, pigeonholes 19 to 26 %.
 #[derive(Drop)]
 pub struct Settings {
     bytes: [u8; 256],
