@@ -67,9 +67,7 @@ fn faultless<R: Record>(
 ) -> Result<(), Decline>
     ensures { Checks (machine file.now) (R.Record.meaning «record».now).steps closing (length memory.old) result }
 {
-    if file.variables() == 0 {
-        return Err(Decline::NotStarted);
-    }
+    file.started()?;
     let count = record.count();
     if memory.len() < count {
         return Err(Decline::FewClausePlaces);

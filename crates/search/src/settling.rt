@@ -27,10 +27,7 @@ fn refusal<O: Order, R: Record>(
 ) -> Result<(), Decline>
     ensures { Refuses (settle_refusal (machine file.now) (O.Order.meaning order.now) (R.Record.meaning «record».now) sheet (trail ∷ frames ∷ [])) result }
 {
-    let n = file.variables() as usize;
-    if n == 0 {
-        return Err(Decline::NotStarted);
-    }
+    let n = usize::from(file.started()?);
     if order.size() as usize != n {
         return Err(Decline::OtherSize);
     }

@@ -53,7 +53,7 @@ pub(crate) struct Tables {
 // A trial (a push/pop level) is the number of clauses that stood when it was opened.
 #[derive(Drop)]
 pub struct StationFile {
-    // 0 before any start, and no `Option`: the public `variables` answers this 0 and the plain machine has it, so that an `Option` would be taken apart in both.
+    // 0 before any start, and no `Option`: the public `variables` answers this 0 and the plain machine has it; an `Option` would be taken apart in both.
     variables: u8,
     number: u32,
     tables: Tables,

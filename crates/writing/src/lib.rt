@@ -39,9 +39,7 @@ pub fn write(file: &StationFile, buffer: &mut [u8]) -> Result<usize, Decline>
     ensures writes { Writes (machine file.now) buffer.old buffer.new result }
     ensures back { GivesBack (machine file.now) buffer.new result }
 {
-    if file.variables() == 0 {
-        return Err(Decline::NotStarted);
-    }
+    file.started()?;
     let length = text_length(file);
     if buffer.len() < length {
         return Err(Decline::ShortBuffer);

@@ -24,11 +24,11 @@ returns-in_err-memory g c =
     let ss = (g.R.Record.meaning c.args.record.now).steps in
     let i = c.loop-i.i in
     let memory = c.loop-i.memory in
-    let q = err_from_is_err_and c.from_residual.result c.from_residual.ensures.1 in
+    let q = err_from_is_err_and c.from_residual-in_err-memory.result c.from_residual-in_err-memory.ensures.1 in
     let fault = going_wrong m.clauses ss c.args.closing (take i memory) i c.loop-i.invariant c.unwrap-step.result
     (sym (length-take-le i memory (omega (arith, c.loop-i.auto.memory))))
     (sym c.unwrap-step.ensures ∙ c.look.ensures) c.in_err-memory.field-0.0 c.in_err-memory.ensures in
-    rw q.1 (checks m ss c.args.closing (length c.args.memory.now) (Err q.0) (λ e. c.if-variables-eq0.false (c.variables.ensures ∙ e))
+    rw q.1 (checks m ss c.args.closing (length c.args.memory.now) (Err q.0) c.in_ok-started.ensures.0
     (omega (arith, c.count-count.ensures, c.if-memory-count.false)) (fault ∙ ap Some (sym q.2)))
 
 pub returns : goal.returns
@@ -38,6 +38,6 @@ returns g c =
     let i = c.loop-i.i in
     let memory = c.loop-i.memory in
     let same : c.count-count.result ≡ i = omega (arith, c.loop-i.auto.i-end, c.loop-i-test.false) in
-    checks m ss c.args.closing (length c.args.memory.now) c.closes.result (λ e. c.if-variables-eq0.false (c.variables.ensures ∙ e)) (omega (arith, c.count-count.ensures, c.if-memory-count.false))
+    checks m ss c.args.closing (length c.args.memory.now) c.closes.result c.in_ok-started.ensures.0 (omega (arith, c.count-count.ensures, c.if-memory-count.false))
     (going_end m.clauses ss c.args.closing (take i memory) i c.loop-i.invariant (omega (arith, c.count-count.ensures, same)) c.closes.result
     (rw same at c.closes.ensures))
