@@ -33,9 +33,6 @@ start_allowed m n e =
     let c = row _ _ _ b.1 in
     record { some = some_variables n a.0; few = ltb-false 200 n b.0; bare = eqb-true (length m.trials) 0 (off _ c.0) }
 
-pub start_goes : (m : Machine) (n : ℕ) → StartAllowed m n → start_refusal m n ≡ None
-start_goes m n s = rw (ne_eqb n 0 (λ e. omega (arith, s.some)), le-ltb 200 n s.few, eq-eqb (length m.trials) 0 s.bare)
-
 -- enter
 
 pub record EnterAllowed (m : Machine) (ts : List ℤ) : Type 0 where
@@ -75,9 +72,6 @@ open_allowed m s e =
     let b = row _ _ _ a.1 in
     let c = row _ _ _ b.1 in
     record { some = some_variables m.variables a.0; is = blank_is s (off _ b.0); few = leb-false 8 (length m.trials) c.0 }
-
-pub open_goes : (m : Machine) (s : SlipState) → OpenAllowed m s → open_refusal m s ≡ None
-open_goes m s g = rw (ne_eqb m.variables 0 (λ e. omega (arith, g.some)), g.is, lt-leb 8 (length m.trials) g.few)
 
 -- close
 

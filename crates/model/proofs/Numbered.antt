@@ -1,36 +1,18 @@
 -- Clauses by their numbers, from 1.
-use Rattle.std.proofs.Common.{◌≡◌, ℕ, zero, suc, ◌+◌, ◌<◌, ◌≤◌, List, [], ◌∷◌, ◌++◌, length, take, Some, None, refl, ap, subst, add-one, arith}
+use Rattle.std.proofs.Common.{◌≡◌, ℕ, zero, suc, ◌<◌, ◌≤◌, List, [], ◌∷◌, length, Some, refl, subst, arith}
 use Rattle.std.specs.List.{slice_get}
 use Rattle.model.specs.Clauses.{Clause, Each}
 use Rattle.model.specs.Search.{First, here, later}
 use Rattle.model.specs.Machine.{clause_at}
-
-nth_take : (F : List Clause) (i : ℕ) (C : Clause) → slice_get F i ≡ Some C → take (suc i) F ≡ take i F ++ (C ∷ [])
-nth_take [] i C e = absurd (let z : ◌≡◌ {A = ℕ} 0 1 = cc in omega arith)
-nth_take (D ∷ F) zero C e = let q : D ≡ C = cc in ap (λ (x : Clause). x ∷ []) q
-nth_take (D ∷ F) (suc i) C e = ap (λ (xs : List Clause). D ∷ xs) (nth_take F i C e)
 
 nth_each : (P : Clause → Type 0) (F : List Clause) (i : ℕ) (C : Clause) → Each P F → slice_get F i ≡ Some C → P C
 nth_each P [] i C p e = absurd (let z : ◌≡◌ {A = ℕ} 0 1 = cc in omega arith)
 nth_each P (D ∷ F) zero C p e = let q : D ≡ C = cc in subst P q p.0
 nth_each P (D ∷ F) (suc i) C p e = nth_each P F i C p.1 e
 
-nth_there : (F : List Clause) (i : ℕ) → i < length F → slice_get F i ≡ None → ⊥
-nth_there [] i h e = omega arith
-nth_there (D ∷ F) zero h e = let z : ◌≡◌ {A = ℕ} 0 1 = cc in omega arith
-nth_there (D ∷ F) (suc i) h e = nth_there F i (omega arith) e
-
--- the clause at place i is the one numbered i + 1
-pub numbered_take : (F : List Clause) (i : ℕ) (C : Clause) → clause_at F (i + 1) ≡ Some C → take (i + 1) F ≡ take i F ++ (C ∷ [])
-numbered_take F i C e = rw add-one (nth_take F i C (rw add-one at e))
-
 pub numbered_each : (P : Clause → Type 0) (F : List Clause) (k : ℕ) (C : Clause) → Each P F → clause_at F k ≡ Some C → P C
 numbered_each P F zero C p e = absurd (let z : ◌≡◌ {A = ℕ} 0 1 = cc in omega arith)
 numbered_each P F (suc k) C p e = nth_each P F k C p e
-
-pub numbered_there : (F : List Clause) (k : ℕ) → 0 < k → k ≤ length F → clause_at F k ≡ None → ⊥
-numbered_there F zero l h e = omega arith
-numbered_there F (suc k) l h e = nth_there F k (omega arith) e
 
 pub first_low : {P : Clause → Type 0} {F : List Clause} {k : ℕ} {C : Clause} → First P F k C → 0 < k
 first_low (here h) = omega arith
