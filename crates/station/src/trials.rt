@@ -62,9 +62,7 @@ impl StationFile {
         ensures { Closes (machine self.old) (slip_state slip.old) (machine self.new) (slip_state slip.new) result }
     {
         self.started()?;
-        let Some(held) = slip.held else {
-            return Err(Decline::SlipBlank);
-        };
+        let held = slip.held.ok_or(Decline::SlipBlank)?;
         if held.file != self.number {
             return Err(Decline::OtherFile);
         }
