@@ -48,6 +48,7 @@ struct Stack<'a, T: Copy> {
 // Where the search stands: what every variable is set to, the trail of settings made, the frames of the branches open, and how many steps were
 // made (the largest number stands for all beyond it). Each call says that the file stays and that the record is the same one (`file`, `tied`): facts of two
 // states, which no invariant can hold. The record is no part of it, since an argument is read from it when the search is over.
+// `Going` and `Stuck` are said of machine, record and position, and not of a `State`, since lemmas speak of them where none stands.
 #[derive(Drop)]
 struct State<'m> {
     file: &'m StationFile,

@@ -45,7 +45,7 @@ fn write(settings: &[u8], sheet: &mut [u8])
     requires { length settings.now ≤ length sheet.old }
     ensures { sheet.new ≡ written settings.now sheet.old }
 {
-    // by place: a proof learns nothing of what is written through a zip over `iter_mut`
+    // by place: a proof learns nothing of what is written through a zip over `iter_mut` (tried)
     for (i, setting) in settings.iter().enumerate() {
         sheet[i] = u8::from(*setting == 1);
     }

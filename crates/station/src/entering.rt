@@ -56,6 +56,7 @@ impl Tables {
     pub(crate) fn append(&mut self, counts: Counts, hand: &Hand) -> Result<Counts, Decline>
         ensures { (n : ℕ) (ts : List ℤ) → Sound n self.old counts → Holds n hand.now ts → Appended n self.old counts ts self.new result }
     {
+        // No file stands here to be asked `started`: the size says it, 0 where none was.
         if hand.variables == 0 {
             return Err(Decline::NotStarted);
         }

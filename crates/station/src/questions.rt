@@ -12,6 +12,7 @@ impl StationFile {
     pub fn show(&self, k: u32) -> Option<&[i32]>
         ensures { Shown (machine self.now) k result }
     {
+        // By two tests and no `get` of the end: where the clause begins is asked of `start_of`, which needs the bound as well.
         if k == 0 {
             return None;
         }

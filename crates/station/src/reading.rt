@@ -52,6 +52,7 @@ fn read_into(n: u8, tables: &mut Tables, counts: &mut Counts, text: &[u8]) -> Re
     ensures sound { Sound n tables.new counts.new }
     ensures reads { ReadInto n tables.old counts.old text.now tables.new counts.new result }
 {
+    // As in `append`, the size says it.
     if n == 0 {
         return Err(NEVER_STARTED.into());
     }
