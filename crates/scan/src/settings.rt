@@ -9,8 +9,8 @@ use clauses::Literal;
 use std::marker::Model;
 
 // What each of n variables is set to: 0 for off, 1 for on and 2 for unset, in bytes since an order is asked with bytes.
-// An array of the most variables, of which the first n stand. No ArrayVec: nothing is ever pushed or popped, and with one (tried, with `get` and `checked_sub` in
-// `entry`) this said no more and the search of random texts took 6 % longer, that of pigeonholes 19 to 26 %.
+// An array of the most variables, of which the first n stand. No ArrayVec: nothing is ever pushed or popped, and with one (tried, with `get` and
+// `checked_sub` in `entry`) this said no more and the search of random texts took 6 % longer, that of pigeonholes 19 to 26 %.
 #[derive(Drop)]
 pub struct Settings {
     bytes: [u8; 256],
