@@ -23,7 +23,7 @@ none_at (suc n) zero = refl
 none_at (suc n) (suc k) = none_at n k
 
 -- a set without a mark
-unmarked : (s : LiteralSet) → ((k : ℕ) → get_or s.marks k false ≡ false) → (u : ℤ) → member s u ≡ false
+pub unmarked : (s : LiteralSet) → ((k : ℕ) → get_or s.marks k false ≡ false) → (u : ℤ) → member s u ≡ false
 unmarked s f (pos zero) = refl
 unmarked s f (pos (suc k)) = f (2 * k + 1)
 unmarked s f (negsuc k) = f (2 * k)

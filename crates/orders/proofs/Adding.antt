@@ -4,7 +4,7 @@ use Rattle.std.proofs.lemmas.List.Recursion.{or_push}
 use Rattle.model.specs.Settling.{OrderMeaning}
 use Rattle.orders.specs.Listed.{numbers, by_preference, holds, wanted, listed, tally}
 
-holds_push : (xs : List ℕ) (p k : ℕ) → holds (xs ++ (p ∷ [])) k ≡ (holds xs k || eqb p k)
+pub holds_push : (xs : List ℕ) (p k : ℕ) → holds (xs ++ (p ∷ [])) k ≡ (holds xs k || eqb p k)
 holds_push xs p k = or_push (λ ys. holds ys k) (λ x. eqb x k) refl (λ x ys. refl) xs p
 
 -- the tally of a list that grows
@@ -45,7 +45,7 @@ pub tally_misses : (n : ℕ) (xs : List ℕ) (p : ℕ) → 0 < p → p ≤ n →
 tally_misses n xs p z h f = let e = tally_push n xs p z h f in let m = tally_most n (xs ++ (p ∷ [])) in omega arith
 
 -- one of 1 to n that is not listed yet is added
-wanted_adds : (n : ℕ) (xs : List ℕ) (p : ℕ) → 0 < p → p ≤ n → holds xs p ≡ false → listed n xs (p ∷ []) ≡ xs ++ (p ∷ [])
+pub wanted_adds : (n : ℕ) (xs : List ℕ) (p : ℕ) → 0 < p → p ≤ n → holds xs p ≡ false → listed n xs (p ∷ []) ≡ xs ++ (p ∷ [])
 wanted_adds n xs p z h f = let a : ltb 0 p ≡ true = lt-ltb 0 p z in let b : leb p n ≡ true = le-leb p n h in rw (a, b, f)
 
 -- some are added, and then others
@@ -70,7 +70,7 @@ one_held n xs j z h = ⊎_elim
     (λ (e : holds xs j ≡ false). let q : eqb j j ≡ true = eq-eqb j j refl in rw (wanted_adds n xs j z h e, holds_push xs j j, e, q))
     (cases_Bool (holds xs j))
 
-all_held : (n m : ℕ) (xs : List ℕ) (j : ℕ) → 0 < j → j ≤ m → m ≤ n → holds (listed n xs (numbers m)) j ≡ true
+pub all_held : (n m : ℕ) (xs : List ℕ) (j : ℕ) → 0 < j → j ≤ m → m ≤ n → holds (listed n xs (numbers m)) j ≡ true
 all_held n zero xs j z h l = absurd (omega arith)
 all_held n (suc m) xs j z h l = rw (listed_append n xs (numbers m) (suc m ∷ [])) (⊎_elim
     (λ (e : j ≡ suc m). rw e (one_held n (listed n xs (numbers m)) (suc m) (omega arith) l))

@@ -1,10 +1,12 @@
-use Rattle.std.proofs.Common.{◌≡◌, ℕ, zero, suc, ◌+◌, ◌-◌, Bool, true, false, eqb, cond, ◌≢◌, List, [], ◌∷◌, ◌++◌, length, Option, IfSome, Some, None, sym, refl, ap, ◌∙◌, subst, arith, true-eqb, false-eqb}
+use Rattle.std.proofs.Common.{◌≡◌, ℕ, zero, suc, ◌+◌, ◌-◌, ◌<◌, ◌≤◌, Bool, true, false, eqb, ltb, cond, ◌≢◌, List, [], ◌∷◌, ◌++◌, length, get_or, take, drop, min, option_map, Option, IfSome, Some, None, sym, refl, ap, ◌∙◌, subst, ⊎_elim, arith, true-eqb, false-eqb}
+use Rattle.std.specs.List.{find, range_with_len, position_from, position_or_len}
+use Rattle.std.specs.declared.ops.RangeInclusive.{RangeInclusive}
+use Rattle.std.specs.Range.{range_inclusive_start, range_inclusive_end, range_inclusive_exhausted, range_inclusive_len, range_inclusive_left, range_inclusive_steps}
 use Rattle.std.proofs.lemmas.Iterator.{YieldsList}
 use Rattle.std.proofs.lemmas.Iterator.Consumers.{YieldsList-from_shown}
-use Rattle.std.specs.declared.ops.RangeInclusive.{RangeInclusive}
-use Rattle.std.specs.List.{find, range_with_len}
-use Rattle.std.specs.Option.{option_map}
-use Rattle.std.specs.Range.{range_inclusive_start, range_inclusive_end, range_inclusive_exhausted, range_inclusive_len, range_inclusive_left, range_inclusive_steps}
+use Rattle.std.proofs.lemmas.Bool.{cases_Bool, ltb-true, ltb-false}
+use Rattle.std.proofs.lemmas.List.{drop_more, drop_all, get_or_past, take_min}
+use Rattle.std.proofs.lemmas.Iterator.Adapters.{position_from-zero}
 use Rattle.model.specs.Search.{entry, Chosen, this, next}
 use Rattle.model.specs.Settling.{Chooses}
 use Rattle.orders.specs.Listed.{numbers}
@@ -26,6 +28,14 @@ pub chooses_found : (σ ks : List ℕ) (r : Option ℕ) → option_map (λ x. x)
 chooses_found σ ks None e = rw (← e) at (chooses_first σ ks)
 chooses_found σ ks (Some v) e = rw (← e) at (chooses_first σ ks)
 
+range_end : (a n : ℕ) → range_with_len a (suc n) ≡ range_with_len a n ++ ((a + n) ∷ [])
+range_end a zero = let e : a + 0 ≡ a = omega arith in rw e
+range_end a (suc n) = let e : a + suc n ≡ a + 1 + n = omega arith in rw e (ap (λ xs. a ∷ xs) (range_end (a + 1) n))
+
+range_numbers : (n : ℕ) → range_with_len 1 n ≡ numbers n
+range_numbers zero = refl
+range_numbers (suc n) = let e : 1 + n ≡ suc n = omega arith in range_end 1 n ∙ rw (range_numbers n, e)
+
 -- `1..=n` gives the numbers of 1 to n
 
 left : RangeInclusive ℕ → ℕ
@@ -36,14 +46,6 @@ steps s r t = range_inclusive_steps (λ a b. b - a) (λ a b. b ≡ a + 1) s r t
 
 shown : RangeInclusive ℕ → List ℕ
 shown s = range_with_len (range_inclusive_start s) (left s)
-
-range_end : (a n : ℕ) → range_with_len a (suc n) ≡ range_with_len a n ++ ((a + n) ∷ [])
-range_end a zero = let e : a + 0 ≡ a = omega arith in rw e
-range_end a (suc n) = let e : a + suc n ≡ a + 1 + n = omega arith in rw e (ap (λ xs. a ∷ xs) (range_end (a + 1) n))
-
-range_numbers : (n : ℕ) → range_with_len 1 n ≡ numbers n
-range_numbers zero = refl
-range_numbers (suc n) = let e : 1 + n ≡ suc n = omega arith in range_end 1 n ∙ rw (range_numbers n, e)
 
 front : (b : Bool) (a c m : ℕ) → (b ≡ false → c ≡ a + 1) → (b ≡ true → m ≡ 0) → range_with_len a (m + 1) ≡ a ∷ range_with_len c m
 front true a c m f g = rw (g refl)
@@ -64,7 +66,48 @@ numbers_yielded s n a b e =
     let all : shown s ≡ numbers n = ap (λ k. range_with_len k (left s)) a ∙ (ap (range_with_len 1) l ∙ range_numbers n) in
     subst (λ xs. YieldsList steps (λ x. x) s xs) all (YieldsList-from_shown steps (λ x. x) shown (λ r t h. ap (λ m. length (range_with_len (range_inclusive_start r) m)) h.1.0) shown_next s)
 
-chosen_unset : {σ ks : List ℕ} {v : ℕ} → Chosen σ ks v → entry σ v ≡ 2
+-- the numbers of 1 to n, by the places of their bytes
+
+abbrev place_of_unset : ℕ → List ℕ → Option ℕ
+place_of_unset a bytes = position_from (λ b. eqb b 2) a bytes
+
+abbrev pub numbered : Option ℕ → Option ℕ
+numbered r = option_map (λ i. i + 1) r
+
+at_place : (σ ks : List ℕ) (a k : ℕ) (b : Bool) (r : Option ℕ) → k ≡ a + 1 → b ≡ eqb (entry σ k) 2 → Chooses σ ks (numbered r) → Chooses σ (k ∷ ks) (numbered (cond b (Some a) r))
+at_place σ ks a k true r e t c = rw (← e) (first_of σ ks k (option_map (λ i. i + 1) r) true t c)
+at_place σ ks a k false r e t c = first_of σ ks k (option_map (λ i. i + 1) r) false t c
+
+none_taken : (a n : ℕ) → place_of_unset a (take n []) ≡ None
+none_taken a zero = refl
+none_taken a (suc n) = refl
+
+from_place : (σ : List ℕ) (n a k : ℕ) → k ≡ a + 1 → Chooses σ (range_with_len k n) (numbered (place_of_unset a (take n (drop a σ))))
+from_place σ zero a k e = tt
+from_place σ (suc n) a k e = ⊎_elim
+    (λ (t : ltb a (length σ) ≡ true).
+    let l : a < length σ = ltb-true a (length σ) t in
+    let x = get_or σ a 0 in
+    let q : k ≡ suc a = omega (arith, e) in
+    let at : entry σ k ≡ x = ap (entry σ) q in
+    let more = at_place σ (range_with_len (k + 1) n) a k (eqb x 2) (place_of_unset (a + 1) (take n (drop (a + 1) σ))) e (ap (λ z. eqb z 2) (sym at)) (from_place σ n (a + 1) (k + 1) (omega (arith, e))) in
+    subst (λ bs. Chooses σ (range_with_len k (suc n)) (numbered (place_of_unset a (take (suc n) bs)))) (sym (drop_more σ a 0 l)) more)
+    (λ (t : ltb a (length σ) ≡ false).
+    let l : length σ ≤ a = ltb-false a (length σ) t in
+    let q : k ≡ suc a = omega (arith, e) in
+    let at : entry σ k ≡ 0 = ap (entry σ) q ∙ get_or_past σ a 0 l in
+    let none = subst (λ bs. Chooses σ (range_with_len (k + 1) n) (numbered (place_of_unset (a + 1) (take n bs)))) (drop_all (a + 1) σ (omega (arith, l))) (from_place σ n (a + 1) (k + 1) (omega (arith, e))) in
+    subst (λ bs. Chooses σ (range_with_len k (suc n)) (numbered (place_of_unset a (take (suc n) bs)))) (sym (drop_all a σ l)) (first_of σ (range_with_len (k + 1) n) k None false (ap (λ z. eqb z 2) (sym at)) (subst (λ r. Chooses σ (range_with_len (k + 1) n) (numbered r)) (none_taken (a + 1) n) none)))
+    (cases_Bool (ltb a (length σ)))
+
+-- the variable after the place of the first byte that is 2 among those of 1 to n
+pub chooses_place : (σ : List ℕ) (n few : ℕ) (r : Option ℕ) → few ≡ min n (length σ) → r ≡ cond (ltb (position_or_len (λ b. eqb b 2) (take few σ)) (length (take few σ))) (Some (position_or_len (λ b. eqb b 2) (take few σ))) None → Chooses σ (numbers n) (numbered r)
+chooses_place σ n few r f e =
+    let place = e ∙ position_from-zero (λ b. eqb b 2) (take few σ) in
+    let same : take few σ ≡ take n σ = ap (λ k. take k σ) f ∙ take_min n σ in
+    subst (λ ks. Chooses σ ks (numbered r)) (range_numbers n) (subst (λ p. Chooses σ (range_with_len 1 n) (numbered p)) (sym (place ∙ ap (place_of_unset 0) same)) (from_place σ n 0 1 refl))
+
+pub chosen_unset : {σ ks : List ℕ} {v : ℕ} → Chosen σ ks v → entry σ v ≡ 2
 chosen_unset (this e) = e
 chosen_unset (next n c) = chosen_unset c
 

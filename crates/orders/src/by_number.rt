@@ -2,7 +2,7 @@ ghost use Rattle.std.specs.Prelude.{◌≡◌, min};
 ghost use Rattle.orders.specs.Listed.{by_number};
 ghost use Rattle.orders.specs.Whole.{by_number_lists};
 
-use super::{Order, is_unset};
+use super::Order;
 
 // The variables 1, 2, .., n.
 #[derive(Drop)]
@@ -31,6 +31,9 @@ impl Order for ByNumber {
     }
 
     fn choose(&self, settings: &[u8]) -> Option<u8> {
-        (1..=self.n).find(|k| is_unset(settings, *k))
+        // By place: `(1..=n).find(..)` took three tests of the range for each number.
+        let few = usize::from(self.n).min(settings.len());
+        let at = settings[..few].iter().position(|byte| *byte == 2)?;
+        Some(at as u8 + 1)
     }
 }

@@ -25,12 +25,12 @@ pub trait Order {
         ensures { Chooses settings.now (meaning self.now).list result };
 }
 
+// Variable 0 has no place: one before it wraps to a place beyond every slice.
 fn is_unset(settings: &[u8], variable: u8) -> bool
     ensures { result ≡ (entry settings.now variable == 2) }
 {
-    usize::from(variable)
-        .checked_sub(1)
-        .and_then(|k| settings.get(k))
+    settings
+        .get(usize::from(variable).wrapping_sub(1))
         .is_some_and(|byte| *byte == 2)
 }
 

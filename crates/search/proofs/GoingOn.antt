@@ -44,7 +44,7 @@ module _ (run : Run) (m : Machine) (rec : RecordMeaning) (p : Position) (g : Goi
   pub going_length : length p.settings ≡ m.variables
   going_length = way_length m.clauses run.order m.variables g.way
 
-  going_low : (k : ℕ) → get_or p.settings k 0 ≤ 2
+  pub going_low : (k : ℕ) → get_or p.settings k 0 ≤ 2
   going_low = way_low m.clauses run.order m.variables g.way
 
   -- where a literal is unset, there is a place left

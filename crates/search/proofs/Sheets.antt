@@ -106,7 +106,7 @@ module _ (m : Machine) (o : OrderMeaning) (rec rec' : RecordMeaning) (sheet : Li
         sym (ap (λ (c : Bool). (told c w.1 sheet).1) b.1),
       )
 
-  settled_ran : Over m.variables m.clauses → Lists o → o.size ≡ m.variables → (p : Position) (r : Result Answer Decline) → Ran this_run m rec' p r → Settled None m o rec sheet r rec' (sheet_after r p.settings)
+  pub settled_ran : Over m.variables m.clauses → Lists o → o.size ≡ m.variables → (p : Position) (r : Result Answer Decline) → Ran this_run m rec' p r → Settled None m o rec sheet r rec' (sheet_after r p.settings)
   settled_ran over lists size p (Ok Fits) q = settled_fits p.settings q.0
   settled_ran over lists size p (Ok (Cannot r)) q = settled_fails r q.0 q.1
   settled_ran over lists size p (Err d) q = subst (λ (x : Decline). Settled None m o rec sheet (Err x) rec' sheet) (sym q.1) (settled_full over lists size q.0)

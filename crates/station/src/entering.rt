@@ -16,6 +16,8 @@ fn in_range(n: u8, t: i32) -> bool
 }
 
 impl Hand {
+    // `inline(always)`: a call moves what it makes.
+    #[inline(always)]
     pub(crate) fn empty(variables: u8) -> Hand
         ensures { Holds variables result [] }
     {

@@ -1,5 +1,5 @@
 pub mod Pieces
-pub mod Words
+pub mod Spellings
 pub mod Rests
 pub mod Digits
 pub mod Heads

@@ -14,11 +14,11 @@ use Rattle.texts.specs.declared.Token.TheVariants.{Problem}
 use Rattle.texts.specs.Scan.{bytes_of, kind_of, Means}
 use Rattle.texts.specs.Steps.{Before, After}
 
-before : (n : ℕ) (s : State) → Before n s → (p : Piece) (t : Token) → step s (p, t) ≡ step_before s p t
+pub before : (n : ℕ) (s : State) → Before n s → (p : Piece) (t : Token) → step s (p, t) ≡ step_before s p t
 unfolding step step_on
 before n s b p t = ap (λ (o : Option ℕ). step_on o s (p, t)) b.none
 
-after : (s : State) → After s → (p : Piece) (t : Token) → step s (p, t) ≡ step_after s p t
+pub after : (s : State) → After s → (p : Piece) (t : Token) → step s (p, t) ≡ step_after s p t
 unfolding step step_on
 after s a p t = ap (λ (o : Option ℕ). step_on o s (p, t)) a.1
 

@@ -4,6 +4,7 @@ use Rattle.std.specs.Borrow.{Bor}
 use Rattle.std.specs.Fn.{Mut}
 use Rattle.std.specs.Iterator.{ActsAsAt}
 use Rattle.texts.specs.declared.Reader.{Reader}
+use Rattle.texts.specs.declared.LineWords.{LineWords}
 use Rattle.texts.specs.declared.Placed.{Placed as Read}
 use Rattle.texts.specs.declared.Token.{Token as Cut}
 use Rattle.texts.specs.declared.Token.TheVariants.{Number, Comment, Problem, LineEnd}
@@ -11,6 +12,7 @@ use Rattle.texts.specs.declared.LineKind.{LineKind}
 use Rattle.texts.specs.declared.LineKind.TheVariants.{Comment as CommentLine, Problem as ProblemLine, Number as NumberLine, Other as OtherLine}
 use Rattle.model.specs.declared.WordFault.{WordFault}
 use Rattle.model.specs.Numbers.{digit}
+use Rattle.model.specs.Reading.{spellings}
 use Rattle.model.specs.Words.{Piece, Placed, Token, number, no_number, comment, problem, line_end, words, split, ends_line, word_tokens, line_tokens, all_tokens}
 
 -- below a million, as six digits write
@@ -70,6 +72,10 @@ text_of r = r.text.now
 
 abbrev pub rest_of : Reader → List Placed
 rest_of r = rest_tokens (line_begins (text_of r) r.at) r.at (drop r.at (text_of r))
+
+-- the words to come of a line
+abbrev pub words_left : LineWords → List (List ℕ)
+words_left w = spellings w.rest.now
 
 -- the tokens given out
 

@@ -11,6 +11,7 @@ pub mod scan;
 mod spans;
 #[cfg(test)]
 mod tests;
+mod words;
 
 // A text and how far it is read.
 #[derive(Drop)]
@@ -18,6 +19,12 @@ pub struct Reader<'a> {
     text: &'a [u8],
     at: usize,
     ghost ok: { at ≤ length text.now },
+}
+
+// The words of a line that are still to come.
+#[derive(Drop)]
+pub(crate) struct LineWords<'a> {
+    rest: &'a [u8],
 }
 
 // What a text consists of, each with the part that it came from: a number, a line head (a whole line that c or p opens), a line end.

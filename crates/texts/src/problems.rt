@@ -4,15 +4,14 @@ ghost use Rattle.model.specs.Words.{tokens};
 ghost use Rattle.model.specs.Reading.{counts, spellings, variables_in};
 
 use super::numbers::natural;
-use super::spans::ends_word;
-use super::{Reader, Token};
+use super::{LineWords, Reader, Token};
 use model::ProblemLine;
 
 // The counts of a problem line, if it is well formed.
 pub fn counts_of(line: &[u8]) -> Option<ProblemLine>
     ensures { result ≡ counts (spellings line.now) }
 {
-    let mut words = line.split(ends_word).filter(|w| !w.is_empty());
+    let mut words = LineWords { rest: line };
     let p = words.next()?;
     let cnf = words.next()?;
     let variables = natural(words.next()?)?;

@@ -40,6 +40,7 @@ fn spelled(p: Result<Placed<'_>, WordFault>) -> Result<Option<Numeral>, TextFaul
 
 impl<'a> Reader<'a> {
     // What is read of the first token of which anything is, or nothing at the end, which `find_map` does not promise to have reached.
+    #[inline(always)]
     fn first_read<T, F>(&mut self, reads: F) -> Result<Option<T>, TextFault>
     where
         T: Drop,

@@ -20,7 +20,7 @@ line_first : (c : Clause) (cs : List Clause) → line c ++ clause_texts cs ≡ c
 unfolding clause_texts
 line_first c cs = append_assoc (literal_texts c) (48 ∷ (10 ∷ [])) (clause_texts cs) ∙ sym (append_assoc (literal_texts c) (48 ∷ []) (10 ∷ clause_texts cs))
 
-text_parts : (m : Machine) → (head_line m.variables (length m.clauses) ++ (10 ∷ [])) ++ clause_texts m.clauses ≡ text_of m
+pub text_parts : (m : Machine) → (head_line m.variables (length m.clauses) ++ (10 ∷ [])) ++ clause_texts m.clauses ≡ text_of m
 unfolding text_of
 text_parts m = append_assoc (head_line m.variables (length m.clauses)) (10 ∷ []) (clause_texts m.clauses)
 

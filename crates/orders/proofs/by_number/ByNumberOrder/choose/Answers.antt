@@ -1,14 +1,20 @@
-use Rattle.std.proofs.Common.{eqb, rules}
+use Rattle.std.proofs.Common.{eqb, take, subst, sym, rules}
 use borrow.Author.Tests.{tests}
-use Rattle.std.proofs.lemmas.Iterator.Search.{find_from_yields_List}
-use Rattle.model.specs.Search.{entry}
+use Rattle.std.proofs.lemmas.Iterator.{YieldsList-from_slice}
+use Rattle.std.proofs.lemmas.Iterator.Search.{position_from_yields_List}
+use Rattle.model.specs.Settling.{Chooses}
 use Rattle.orders.specs.Listed.{numbers}
-use Rattle.orders.proofs.Choosing.{chooses_found, numbers_yielded}
+use Rattle.orders.proofs.Choosing.{chooses_place, numbered}
 use Rattle.orders.proofs.by_number.ByNumberOrder.choose.Goals as goal
+
+pub returns-in_err-at : goal.returns-in_err-at
+returns-in_err-at c =
+    let σ = c.args.settings.now in
+    let found = position_from_yields_List (λ b. eqb b 2) _ _ c.position.result c.position.ensures.ran (YieldsList-from_slice (take c.min-few.result σ) c.iter.ensures.rest) (λ x b q k. search (rules, tests)) in
+    subst (Chooses σ (numbers c.args.self.now.n)) (sym c.from_residual.ensures) (subst (λ r. Chooses σ (numbers c.args.self.now.n) (numbered r)) c.in_err-at.was (chooses_place σ c.args.self.now.n c.min-few.result c.position.result (search rules) found))
 
 pub returns : goal.returns
 returns c =
-    let n = c.args.self.now.n in
-    let listed = numbers_yielded c.new.result n c.new.ensures.start c.new.ensures.end c.new.ensures.exhausted in
-    chooses_found c.args.settings.now (numbers n) c.find.result
-    (find_from_yields_List (λ k. eqb (entry c.args.settings.now k) 2) _ _ c.find.result c.find.ensures.ran listed (λ x b q k. search (rules, tests)))
+    let σ = c.args.settings.now in
+    let found = position_from_yields_List (λ b. eqb b 2) _ _ c.position.result c.position.ensures.ran (YieldsList-from_slice (take c.min-few.result σ) c.iter.ensures.rest) (λ x b q k. search (rules, tests)) in
+    subst (λ r. Chooses σ (numbers c.args.self.now.n) (numbered r)) c.in_ok-at.was (chooses_place σ c.args.self.now.n c.min-few.result c.position.result (search rules) found)
