@@ -100,12 +100,18 @@ from_place σ (suc n) a k e = ⊎_elim
     subst (λ bs. Chooses σ (range_with_len k (suc n)) (numbered (place_of_unset a (take (suc n) bs)))) (sym (drop_all a σ l)) (first_of σ (range_with_len (k + 1) n) k None false (ap (λ z. eqb z 2) (sym at)) (subst (λ r. Chooses σ (range_with_len (k + 1) n) (numbered r)) (none_taken (a + 1) n) none)))
     (cases_Bool (ltb a (length σ)))
 
+-- the bytes of the variables 1 to n: a part that begins at the first, wherever it is said to begin
+pub bytes_of : (σ : List ℕ) (n few : ℕ) → few ≡ min n (length σ) → take few σ ≡ take n σ
+bytes_of σ n few f = ap (λ k. take k σ) f ∙ take_min n σ
+
+pub bytes_from : (σ : List ℕ) (n few a : ℕ) → a ≡ 0 → few ≡ min n (length σ) → take (few - a) (drop a σ) ≡ take n σ
+bytes_from σ n few a z f = let e : few - 0 ≡ few = omega arith in rw (z, e) (bytes_of σ n few f)
+
 -- the variable after the place of the first byte that is 2 among those of 1 to n
-pub chooses_place : (σ : List ℕ) (n few : ℕ) (r : Option ℕ) → few ≡ min n (length σ) → r ≡ cond (ltb (position_or_len (λ b. eqb b 2) (take few σ)) (length (take few σ))) (Some (position_or_len (λ b. eqb b 2) (take few σ))) None → Chooses σ (numbers n) (numbered r)
-chooses_place σ n few r f e =
-    let place = e ∙ position_from-zero (λ b. eqb b 2) (take few σ) in
-    let same : take few σ ≡ take n σ = ap (λ k. take k σ) f ∙ take_min n σ in
-    subst (λ ks. Chooses σ ks (numbered r)) (range_numbers n) (subst (λ p. Chooses σ (range_with_len 1 n) (numbered p)) (sym (place ∙ ap (place_of_unset 0) same)) (from_place σ n 0 1 refl))
+pub chooses_place : (σ : List ℕ) (n : ℕ) (bytes : List ℕ) (r : Option ℕ) → r ≡ cond (ltb (position_or_len (λ b. eqb b 2) bytes) (length bytes)) (Some (position_or_len (λ b. eqb b 2) bytes)) None → bytes ≡ take n σ → Chooses σ (numbers n) (numbered r)
+chooses_place σ n bytes r e f =
+    let place = e ∙ (position_from-zero (λ b. eqb b 2) bytes ∙ ap (place_of_unset 0) f) in
+    subst (λ ks. Chooses σ ks (numbered r)) (range_numbers n) (subst (λ p. Chooses σ (range_with_len 1 n) (numbered p)) (sym place) (from_place σ n 0 1 refl))
 
 pub chosen_unset : {σ ks : List ℕ} {v : ℕ} → Chosen σ ks v → entry σ v ≡ 2
 chosen_unset (this e) = e

@@ -1,5 +1,6 @@
 -- The last entry of the trail, read off its mark, and a failed search with that setting taken back.
-use Rattle.std.proofs.Common.{◌≡◌, ℕ, ◌≤◌, List, [], ◌∷◌, ◌++◌, length, ℤ, sym, refl, ap, ◌∙◌, subst, arith, length-append}
+use Rattle.std.proofs.Common.{◌≡◌, ℕ, zero, suc, ◌≤◌, List, [], ◌∷◌, ◌++◌, length, ℤ, pos, negsuc, sym, refl, ap, ◌∙◌, subst, arith, length-append}
+use Rattle.std.proofs.lemmas.List.{set-set}
 use Rattle.model.specs.declared.Step.{Step}
 use Rattle.model.specs.declared.Reference.{Reference}
 use Rattle.model.specs.Clauses.{Clause, on, off, variable, ◌∈◌}
@@ -35,6 +36,16 @@ not_empty xs x e = let l = ap length e ∙ length-append xs (x ∷ []) in omega 
 pub unset_again : (l : Literal) (σ τ : Setting) (t : ℤ) → code l ≡ t → τ ≡ make_true σ t → value σ t ≡ 2 → put_entry τ (variable (code l)) 2 ≡ σ
 unset_again l σ τ t e q two =
     ap (λ (u : ℤ). put_entry τ (variable u) 2) e ∙ ap (λ (ρ : Setting). put_entry ρ (variable t) 2) q ∙ clear_true σ t two
+
+-- a variable that is set twice is as it was set last
+
+set_twice : (σ : Setting) (t : ℤ) (b : ℕ) → put_entry (make_true σ t) (variable t) b ≡ put_entry σ (variable t) b
+set_twice σ (pos zero) b = refl
+set_twice σ (pos (suc k)) b = set-set σ k 1 b
+set_twice σ (negsuc k) b = set-set σ k 0 b
+
+pub put_over : (σ τ ρ : Setting) (t : ℤ) (b : ℕ) → τ ≡ make_true σ t → ρ ≡ put_entry τ (variable t) b → ρ ≡ put_entry σ (variable t) b
+put_over σ τ ρ t b e f = f ∙ (ap (λ (z : Setting). put_entry z (variable t) b) e ∙ set_twice σ t b)
 
 -- what each kind of entry says of the way
 

@@ -50,7 +50,8 @@ impl Sink for Front<'_> {
 
     fn put(&mut self, bytes: &[u8]) {
         let end = self.at + (self.buffer.len() - self.at).min(bytes.len());
-        self.buffer[self.at..end].copy_from_slice(&bytes[..end - self.at]);
+        let part = &mut self.buffer[self.at..end];
+        part.copy_from_slice(&bytes[..end - self.at]);
         self.at = end;
     }
 }
