@@ -37,15 +37,21 @@ pub unset_again : (l : Literal) (σ τ : Setting) (t : ℤ) → code l ≡ t →
 unset_again l σ τ t e q two =
     ap (λ (u : ℤ). put_entry τ (variable u) 2) e ∙ ap (λ (ρ : Setting). put_entry ρ (variable t) 2) q ∙ clear_true σ t two
 
--- a variable that is set twice is as it was set last
+-- A variable that is set twice is as it was set last: what may have been written before does not matter to whoever takes a setting back.
 
-set_twice : (σ : Setting) (t : ℤ) (b : ℕ) → put_entry (make_true σ t) (variable t) b ≡ put_entry σ (variable t) b
-set_twice σ (pos zero) b = refl
-set_twice σ (pos (suc k)) b = set-set σ k 1 b
-set_twice σ (negsuc k) b = set-set σ k 0 b
+put_twice : (σ : Setting) (v a b : ℕ) → put_entry (put_entry σ v a) v b ≡ put_entry σ v b
+put_twice σ zero a b = refl
+put_twice σ (suc k) a b = set-set σ k a b
 
-pub put_over : (σ τ ρ : Setting) (t : ℤ) (b : ℕ) → τ ≡ make_true σ t → ρ ≡ put_entry τ (variable t) b → ρ ≡ put_entry σ (variable t) b
-put_over σ τ ρ t b e f = f ∙ (ap (λ (z : Setting). put_entry z (variable t) b) e ∙ set_twice σ t b)
+true_entry : (σ : Setting) (t : ℤ) → (a : ℕ) × (make_true σ t ≡ put_entry σ (variable t) a)
+true_entry σ (pos k) = (1, refl)
+true_entry σ (negsuc k) = (0, refl)
+
+pub put_over : (σ τ ρ : Setting) (v a b : ℕ) → τ ≡ put_entry σ v a → ρ ≡ put_entry τ v b → ρ ≡ put_entry σ v b
+put_over σ τ ρ v a b e f = f ∙ (ap (λ (z : Setting). put_entry z v b) e ∙ put_twice σ v a b)
+
+pub true_over : (σ τ ρ : Setting) (t : ℤ) (b : ℕ) → τ ≡ make_true σ t → ρ ≡ put_entry τ (variable t) b → ρ ≡ put_entry σ (variable t) b
+true_over σ τ ρ t b e f = let a = true_entry σ t in put_over σ τ ρ (variable t) a.0 b (e ∙ a.1) f
 
 -- what each kind of entry says of the way
 

@@ -6,7 +6,7 @@ use Rattle.station.proofs.Files.{small_file}
 use Rattle.search.specs.Stacks.{items}
 use Rattle.search.specs.States.{position, machine_of, Run, Stuck, Past, Stepped}
 use Rattle.search.proofs.GoingBack.{after, top_index, marks_low, clause_there, frame_there, on_frames, stepped_clause, stepped_off, stepped_on}
-use Rattle.search.proofs.Views.{put_over}
+use Rattle.search.proofs.Views.{put_over, true_over}
 use Rattle.search.proofs.State.step_back.Given.{Over}
 use Rattle.search.proofs.State.step_back.Goals.{After-past, in-Clause, in-Off}
 use Rattle.search.proofs.State.step_back.Goals as goal
@@ -35,7 +35,7 @@ pop-setter-requires g c = frame_there c.requires.stuck.0 _ _ _ _ c.requires.stuc
 
 pub returns-in-On-clause-stepped : goal.returns-in-On-clause-stepped
 returns-in-On-clause-stepped g c =
-    λ run s. stepped_on run _ _ _ _ s _ c.pop-why.result c.pop-why.ensures.items _ (search (rules, put_over)) (position c.turn.new.self) c.in-On.is c.turn.result c.turn.ensures.turned
+    λ run s. stepped_on run _ _ _ _ s _ c.pop-why.result c.pop-why.ensures.items _ (search (rules, put_over, true_over)) (position c.turn.new.self) c.in-On.is c.turn.result c.turn.ensures.turned
 
 -- the failing clause went past the literal, whichever set it, or the record was full
 went : (g : Over) (c : After-past g) (run : Run) → Stuck run (machine_of c.args.self.now) (g.R.Record.meaning c.args.record.now) (position c.args.self.now) c.args.failure.now
@@ -45,11 +45,11 @@ went : (g : Over) (c : After-past g) (run : Run) → Stuck run (machine_of c.arg
 went g c run s r q =
     elim c.match-why.branch [
       | in-Clause w ↦
-          stepped_clause run _ _ _ _ s _ c.pop-why.result c.pop-why.ensures.items _ (search (rules, put_over)) (position c.past.new.self) c.past.new.failure _ c.match-why.setter
+          stepped_clause run _ _ _ _ s _ c.pop-why.result c.pop-why.ensures.items _ (search (rules, put_over, true_over)) (position c.past.new.self) c.past.new.failure _ c.match-why.setter
           w.in-Clause.k w.in-Clause.is (rw w.setter-is w.frame_of-setter.ensures.by) (rw w.setter-is w.frame_of-setter.ensures.holds)
           (rw w.self-is at c.past.ensures.position) r (rw w.self-is at q)
       | in-Off w ↦
-          stepped_off run _ _ _ _ s _ c.pop-why.result c.pop-why.ensures.items _ (search (rules, put_over)) (position c.past.new.self) c.past.new.failure _ c.match-why.setter
+          stepped_off run _ _ _ _ s _ c.pop-why.result c.pop-why.ensures.items _ (search (rules, put_over, true_over)) (position c.past.new.self) c.past.new.failure _ c.match-why.setter
           w.in-Off.is (items w.pop-setter.new.self) (rw w.setter-is w.pop-setter.ensures.items)
           (rw w.self-is at c.past.ensures.position) r (rw w.self-is at q)
     ]
