@@ -100,11 +100,11 @@ from_place σ (suc n) a k e = ⊎_elim
     subst (λ bs. Chooses σ (range_with_len k (suc n)) (numbered (place_of_unset a (take (suc n) bs)))) (sym (drop_all a σ l)) (first_of σ (range_with_len (k + 1) n) k None false (ap (λ z. eqb z 2) (sym at)) (subst (λ r. Chooses σ (range_with_len (k + 1) n) (numbered r)) (none_taken (a + 1) n) none)))
     (cases_Bool (ltb a (length σ)))
 
--- the first few bytes are those of the variables 1 to n
+-- the bytes of the variables 1 to n, as far as there are any
 pub bytes_of : (σ : List ℕ) (n few : ℕ) → few ≡ min n (length σ) → take few σ ≡ take n σ
 bytes_of σ n few f = ap (λ k. take k σ) f ∙ take_min n σ
 
--- the same of a part that is written with a beginning: that has to be 0, which a part without variable 1 is refused for
+-- The same where the part is written with its beginning: that has to be 0. The code writes none; a part that leaves out variable 1 is refused here.
 pub bytes_from : (σ : List ℕ) (n few a : ℕ) → a ≡ 0 → few ≡ min n (length σ) → take (few - a) (drop a σ) ≡ take n σ
 bytes_from σ n few a z f = let e : few - 0 ≡ few = omega arith in rw (z, e) (bytes_of σ n few f)
 

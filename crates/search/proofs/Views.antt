@@ -37,7 +37,8 @@ pub unset_again : (l : Literal) (σ τ : Setting) (t : ℤ) → code l ≡ t →
 unset_again l σ τ t e q two =
     ap (λ (u : ℤ). put_entry τ (variable u) 2) e ∙ ap (λ (ρ : Setting). put_entry ρ (variable t) 2) q ∙ clear_true σ t two
 
--- A variable that is set twice is as it was set last: what may have been written before does not matter to whoever takes a setting back.
+-- A variable that is set twice is as it was set last. The code that takes a setting back writes once; by these, a wrong second write is refused for what
+-- it leaves, and not for being one.
 
 put_twice : (σ : Setting) (v a b : ℕ) → put_entry (put_entry σ v a) v b ≡ put_entry σ v b
 put_twice σ zero a b = refl

@@ -9,7 +9,7 @@ use Rattle.orders.proofs.Choosing.{bytes_of, bytes_from, chooses_place, numbered
 use Rattle.orders.proofs.by_number.ByNumberOrder.choose.Goals.{After-position}
 use Rattle.orders.proofs.by_number.ByNumberOrder.choose.Goals as goal
 
--- whether there is such a byte or not
+-- for both returns: a byte that is 2 was found, or none
 placed : (c : After-position) → Chooses c.args.settings.now (numbers c.args.self.now.n) (numbered c.position.result)
 placed c =
     let σ = c.args.settings.now in
